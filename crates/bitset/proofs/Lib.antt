@@ -1,0 +1,5 @@
+-- The laws of sets kept in numbers, each stated once for every width.
+pub mod Members
+pub mod Subsets
+pub mod Size
+pub mod Words

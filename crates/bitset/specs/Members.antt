@@ -1,0 +1,52 @@
+-- Sets of small numbers, each kept in one number: member k weighs 2 ^ k.
+--
+--   has s k          whether k is a member of s; a Bool, so that it computes
+--   s ⊆ t            every member of s is a member of t
+--   insert s k       s with the member k
+--   s ∖ t            the members of s that are not in t
+--   size w s         how many members s has below w
+--   Lowest w s r     r is the lowest member of s below w, and is w if there is none
+--   subsets w s      the subsets of the members of s below w, as numbers, rising
+--
+-- A set of points (at most 32) and a set of cables (at most 64) are both such numbers; the code keeps the two kinds apart by their
+-- types, `NodeSet` and `EdgeSet`, and everything below is said once for every width.
+use mathlib.Core.Path.{_≡_}
+use mathlib.Core.Bool.{Bool, true, false}
+use mathlib.Core.List.{List, [], _∷_, _++_, map}
+use Prim.Native.Nat.{ℕ, zero, suc, _+_, _-_, _/_, _%_, _^_, _≤_, _<_}
+use lib.Bits.{bitAnd}
+use lib.Dec.{T, eqb}
+
+infix 40 _⊆_
+infixl 65 _∖_
+-- The binary digit of s of weight 2 ^ k is 1.
+unfoldable pub has : ℕ → ℕ → Bool
+has s k = eqb (s / 2 ^ k % 2) 1
+
+abbrev pub _⊆_ : ℕ → ℕ → Type 0
+s ⊆ t = (k : ℕ) → T (has s k) → T (has t k)
+
+unfoldable pub insert : ℕ → ℕ → ℕ
+insert s k = elim (has s k) [ true ↦ s | false ↦ s + 2 ^ k ]
+
+-- The common members are taken off the number.
+unfoldable pub _∖_ : ℕ → ℕ → ℕ
+s ∖ t = s - bitAnd s t
+
+unfoldable pub size : ℕ → ℕ → ℕ
+size zero s = 0
+size (suc w) s = elim (has s w) [ true ↦ suc (size w s) | false ↦ size w s ]
+
+pub record Lowest (w s r : ℕ) : Type 0 where
+  pub within : r ≤ w
+  pub none-below : (k : ℕ) → k < r → has s k ≡ false
+  pub member : r < w → has s r ≡ true
+
+-- Those without w come first: they are below 2 ^ w, and the others are not.
+unfoldable pub subsets : ℕ → ℕ → List ℕ
+subsets zero s = 0 ∷ []
+subsets (suc w) s =
+    elim (has s w) [
+      | true ↦ let below = subsets w s in below ++ map (λ t. t + 2 ^ w) below
+      | false ↦ subsets w s
+    ]

@@ -1,0 +1,96 @@
+// The functions for other languages: each takes numbers, lent slices and lent arrays, and whatever it is given.
+//
+// A network crosses the border field by field: the counts and the set of edges as numbers, the ends as two arrays of 64.
+// A slice passes as a pointer and a length, an array or a single number as a pointer.
+use bitset::EdgeSet;
+use network::Network;
+ghost use mathlib.Core.Path.{_≡_};
+ghost use Rattle.network.specs.Record.{faultOf};
+ghost use Rattle.network.specs.Format.{decodeOf, encodedBy, bytesAfter};
+ghost use Rattle.capi.specs.Fields.{assembled};
+
+// Reads a plan. Gives the refusal's number, 0 if there is none, and fills in the record, all zero on refusal.
+#[no_mangle]
+pub extern "C" fn cutlist_decode(
+    plan: &[u8],
+    nodes: &mut u8,
+    source: &mut u8,
+    sink: &mut u8,
+    present: &mut u64,
+    first: &mut [u8; 64],
+    second: &mut [u8; 64],
+) -> u8
+    ensures { λ r. ⌜ (r ≡ decodeOf (now (plan .entry)) .refusal)
+        × (assembled (now (nodes .exit)) (now (source .exit)) (now (sink .exit)) (now (present .exit)) (now (first .exit)) (now (second .exit))
+        ≡ decodeOf (now (plan .entry)) .network) ⌝ }
+{
+    let decoded = network::decode(plan);
+    let read = decoded.network;
+    let edges = read.present;
+    let firsts = read.first;
+    let seconds = read.second;
+    *nodes = read.nodes;
+    *source = read.source;
+    *sink = read.sink;
+    *present = edges.0;
+    *first = firsts;
+    *second = seconds;
+    decoded.refusal
+}
+
+// Tests a record. Gives the number of its first fault, 0 if it has none.
+#[no_mangle]
+pub extern "C" fn cutlist_fault(
+    nodes: u8,
+    source: u8,
+    sink: u8,
+    present: u64,
+    first: &[u8; 64],
+    second: &[u8; 64],
+) -> u8
+    ensures { λ r. ⌜ r ≡ faultOf (assembled nodes source sink present (now (first .entry)) (now (second .entry))) ⌝ }
+{
+    let firsts = *first;
+    let seconds = *second;
+    network::fault(Network {
+        nodes,
+        source,
+        sink,
+        present: EdgeSet(present),
+        first: firsts,
+        second: seconds,
+    })
+}
+
+// Writes a record into a lent buffer. Gives the refusal's number, 0 if there is none, and the count of bytes written, 0 on refusal.
+#[no_mangle]
+pub extern "C" fn cutlist_encode(
+    nodes: u8,
+    source: u8,
+    sink: u8,
+    present: u64,
+    first: &[u8; 64],
+    second: &[u8; 64],
+    plan: &mut [u8],
+    count: &mut usize,
+) -> u8
+    ensures { λ r. ⌜ (record { refusal = r; count = now (count .exit) }
+        ≡ encodedBy (assembled nodes source sink present (now (first .entry)) (now (second .entry))) (now (plan .entry)))
+        × (now (plan .exit) ≡ bytesAfter (assembled nodes source sink present (now (first .entry)) (now (second .entry))) (now (plan .entry))) ⌝ }
+{
+    let firsts = *first;
+    let seconds = *second;
+    let encoded = network::encode(
+        Network {
+            nodes,
+            source,
+            sink,
+            present: EdgeSet(present),
+            first: firsts,
+            second: seconds,
+        },
+        plan,
+    );
+    *count = encoded.count;
+    encoded.refusal
+}

@@ -1,0 +1,56 @@
+-- The laws of `_when_` and `_then_`, by which the rules are put together.
+-- Assumes nothing.
+use mathlib.Core.Bool.{Bool, true, false, _||_, true≢false}
+use mathlib.Core.Path.{_≡_, refl, ap, _∙_}
+use Prim.Native.Nat.{ℕ, zero, suc, _≤_, _<_, zero-le}
+use native.Mathlib.Omega.{arith}
+use Rattle.network.specs.Record.{_when_, _then_}
+
+-- Two rules in a row find no fault exactly if neither does.
+pub then-none : (r s : ℕ) → (r then s) ≡ 0 → (r ≡ 0) × (s ≡ 0)
+unfolding _then_
+then-none zero s e = (refl, e)
+then-none (suc r) s e = absurd (let bad : suc r ≡ 0 = e in omega arith)
+
+pub none-then : {r : ℕ} (s : ℕ) → r ≡ 0 → (r then s) ≡ s
+unfolding _then_
+none-then s e = ap (λ r. r then s) e
+
+-- The first fault is the answer.
+pub some-then : (r s : ℕ) → 0 < r → (r then s) ≡ r
+unfolding _then_
+some-then zero s p = absurd (omega arith)
+some-then (suc r) s p = refl
+
+-- A rule finds no fault exactly if it does not apply.
+pub when-none : (r : ℕ) (b : Bool) → 0 < r → (r when b) ≡ 0 → b ≡ false
+unfolding _when_
+when-none r true p e = absurd (let bad : r ≡ 0 = e in omega arith)
+when-none r false p e = refl
+
+pub none-when : (r : ℕ) {b : Bool} → b ≡ false → (r when b) ≡ 0
+unfolding _when_
+none-when r e = ap (λ b. r when b) e
+
+pub some-when : (r : ℕ) {b : Bool} → b ≡ true → (r when b) ≡ r
+unfolding _when_
+some-when r e = ap (λ b. r when b) e
+
+-- A disjunction fails exactly if both sides do.
+pub or-none : (a b : Bool) → (a || b) ≡ false → (a ≡ false) × (b ≡ false)
+or-none true b e = absurd (true≢false e)
+or-none false b e = (refl, e)
+
+pub none-or : {a b : Bool} → a ≡ false → b ≡ false → (a || b) ≡ false
+none-or {a} {b} e f = ap (λ x. x || b) e ∙ f
+
+-- A bound on each of two rules bounds them in a row.
+pub then-bounded : (m r s : ℕ) → r ≤ m → s ≤ m → (r then s) ≤ m
+unfolding _then_
+then-bounded m zero s p q = q
+then-bounded m (suc r) s p q = p
+
+pub when-bounded : (m r : ℕ) (b : Bool) → r ≤ m → (r when b) ≤ m
+unfolding _when_
+when-bounded m r true p = p
+when-bounded m r false p = zero-le

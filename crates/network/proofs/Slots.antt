@@ -1,0 +1,123 @@
+-- The 64 slots of a record: what is stored in one, and what the record test and the writer make of all of them.
+-- Assumes nothing.
+use mathlib.Core.Bool.{Bool, true, false, cond, _||_, or-false, or-true}
+use mathlib.Core.List.{List, [], _∷_, _++_, map, foldr, flatMap}
+use mathlib.Core.Path.{_≡_, refl, ap, ap₂, sym, _∙_}
+use Prim.Native.Nat.{ℕ, zero, suc, _+_, _-_, _≤_, _<_, _^_, zero-le}
+use native.Mathlib.Decide.{ℕ-discrete}
+use native.Mathlib.Omega.{arith}
+use lib.Dec.{eqb}
+use lib.ListN.{length, getD, set, length-set}
+use lib.Seq.{getD-set-same, getD-set-other}
+use borrow.Author.Tests.{eq-eqb, ne-eqb}
+use Rattle.bitset.specs.Members.{has, insert}
+use Rattle.bitset.proofs.Members.{has-insert, insert-lt}
+use Rattle.network.specs.declared.Network.{Network}
+use Rattle.network.specs.Record.{_then_, Stored, rising, slots, Slot, slot, slotFaultOf, slotFault, slotsFault, sizeFault, terminalFault, endFault, absentFault, faultOf, hasEdge, firstEnd, secondEnd, withEdge}
+use Rattle.network.specs.Format.{commandOf, edgeCommand}
+use Rattle.network.proofs.Refusals.{then-none, none-then}
+
+abbrev pub empty : Slot
+empty = (false, 0, 0)
+
+-- The fault of a slot and its command are read off what it holds.
+pub slotFault-of : (N : Network) (k : ℕ) {s : Slot} → slot N k ≡ s → slotFault N k ≡ slotFaultOf (N .nodes) s
+unfolding slotFault
+slotFault-of N k e = ap (slotFaultOf (N .nodes)) e
+
+pub command-of : (N : Network) (k : ℕ) {s : Slot} → slot N k ≡ s → edgeCommand N k ≡ commandOf k s
+unfolding edgeCommand
+command-of N k e = ap (commandOf k) e
+
+-- ---- an edge put in
+
+module _ (N : Network) (stored : Stored N) (k a b : ℕ) (l : k < 64) where
+  pub withEdge-same : slot (withEdge N k a b) k ≡ (true, a, b)
+  unfolding withEdge
+  withEdge-same =
+      let p : hasEdge (withEdge N k a b) k ≡ true = has-insert (N .present .0) k k ∙ ap (λ x. hasEdge N k || x) (eq-eqb k k refl) ∙ or-true (hasEdge N k) in
+      let f : firstEnd (withEdge N k a b) k ≡ a = getD-set-same (N .first) k a 0 (rw (stored .firsts) l) in
+      let g : secondEnd (withEdge N k a b) k ≡ b = getD-set-same (N .second) k b 0 (rw (stored .seconds) l) in
+      λ i. (p i, f i, g i)
+
+  pub withEdge-other : (j : ℕ) → (j ≡ k → ⊥) → slot (withEdge N k a b) j ≡ slot N j
+  unfolding withEdge
+  withEdge-other j d =
+      let p : hasEdge (withEdge N k a b) j ≡ hasEdge N j = has-insert (N .present .0) k j ∙ ap (λ x. hasEdge N j || x) (ne-eqb j k d) ∙ or-false (hasEdge N j) in
+      let f : firstEnd (withEdge N k a b) j ≡ firstEnd N j = getD-set-other (N .first) k j a 0 d in
+      let g : secondEnd (withEdge N k a b) j ≡ secondEnd N j = getD-set-other (N .second) k j b 0 d in
+      λ i. (p i, f i, g i)
+
+  pub withEdge-stored : Stored (withEdge N k a b)
+  unfolding withEdge
+  withEdge-stored = record {
+    firsts = length-set (N .first) k a ∙ stored .firsts;
+    seconds = length-set (N .second) k b ∙ stored .seconds;
+    edges = insert-lt 64 (stored .edges) l;
+  }
+
+-- ---- all slots
+
+-- The first fault of a row of slots is none exactly if each has none.
+pub row-none : (f : ℕ → ℕ) (k n : ℕ) → foldr _then_ 0 (map f (rising k n)) ≡ 0 → (j : ℕ) → k ≤ j → j < k + n → f j ≡ 0
+unfolding rising
+row-none f k zero e j h l = absurd (omega arith)
+row-none f k (suc n) e j h l =
+    let parts = then-none (f k) (foldr _then_ 0 (map f (rising (suc k) n))) e in
+    at-or-past (parts .0) (λ (p : suc k ≤ j). row-none f (suc k) n (parts .1) j p (omega arith)) (ℕ-discrete j k)
+  where
+    at-or-past : f k ≡ 0 → (suc k ≤ j → f j ≡ 0) → Dec (j ≡ k) → f j ≡ 0
+    at-or-past z later (yes p) = ap f p ∙ z
+    at-or-past z later (no d) = later (omega arith)
+
+pub none-row : (f : ℕ → ℕ) (k n : ℕ) → ((j : ℕ) → k ≤ j → j < k + n → f j ≡ 0) → foldr _then_ 0 (map f (rising k n)) ≡ 0
+unfolding rising
+none-row f k zero z = refl
+none-row f k (suc n) z = none-then _ (z k (omega arith) (omega arith)) ∙ none-row f (suc k) n (λ j h l. z j (omega arith) (omega arith))
+
+-- A record is accepted exactly if its size, its terminals and each slot have no fault.
+pub record Accepted (N : Network) : Type 0 where
+  pub size : sizeFault (N .nodes) ≡ 0
+  pub terminals : terminalFault (N .nodes) (N .source) (N .sink) ≡ 0
+  pub slot-none : (k : ℕ) → k < 64 → slotFault N k ≡ 0
+
+pub accepted : (N : Network) → faultOf N ≡ 0 → Accepted N
+unfolding faultOf slotsFault
+accepted N e =
+    let a = then-none (sizeFault (N .nodes)) _ e in
+    let b = then-none (terminalFault (N .nodes) (N .source) (N .sink)) _ (a .1) in
+    record { size = a .0; terminals = b .0; slot-none = λ k l. row-none (slotFault N) 0 64 (b .1) k zero-le (omega arith) }
+
+pub accepted-none : (N : Network) → Accepted N → faultOf N ≡ 0
+unfolding faultOf slotsFault
+accepted-none N a =
+    none-then _ (a .size) ∙ none-then _ (a .terminals) ∙ none-row (slotFault N) 0 64 (λ j h l. a .slot-none j (omega arith))
+
+-- A slot without an edge has no command.
+pub command-absent : (N : Network) (k : ℕ) → hasEdge N k ≡ false → edgeCommand N k ≡ []
+unfolding edgeCommand
+command-absent N k e = rw e
+
+-- The commands of the n slots from k on, where they end together with the n′ slots from k′ on, are those from k′ on if the slots
+-- between are absent.
+pub commands-skip : (N : Network) (k n k′ n′ : ℕ) → k ≤ k′ → k + n ≡ k′ + n′ → ((j : ℕ) → k ≤ j → j < k′ → hasEdge N j ≡ false)
+    → flatMap (edgeCommand N) (rising k n) ≡ flatMap (edgeCommand N) (rising k′ n′)
+unfolding rising flatMap
+commands-skip N k zero k′ n′ h e z =
+    let p : k ≡ k′ = omega arith in
+    let q : 0 ≡ n′ = omega arith in
+    ap₂ (λ x y. flatMap (edgeCommand N) (rising x y)) p q
+commands-skip N k (suc n) k′ n′ h e z =
+    here-or-later (λ (l : suc k ≤ k′). commands-skip N (suc k) n k′ n′ l (omega arith) (λ j p. z j (omega arith))) (ℕ-discrete k k′)
+  where
+    here-or-later : (suc k ≤ k′ → flatMap (edgeCommand N) (rising (suc k) n) ≡ flatMap (edgeCommand N) (rising k′ n′)) → Dec (k ≡ k′)
+        → flatMap (edgeCommand N) (rising k (suc n)) ≡ flatMap (edgeCommand N) (rising k′ n′)
+    here-or-later later (yes p) = let q : suc n ≡ n′ = omega arith in ap₂ (λ x y. flatMap (edgeCommand N) (rising x y)) p q
+    here-or-later later (no d) =
+        ap (λ c. c ++ flatMap (edgeCommand N) (rising (suc k) n)) (command-absent N k (z k (omega arith) (omega arith)))
+        ∙ later (omega arith)
+
+-- The first fault of the slots from k on is that of slot k, or else that of the later ones.
+pub slots-step : (N : Network) (k : ℕ) → k < 64 → slotsFault N k (64 - k) ≡ (slotFault N k then slotsFault N (suc k) (64 - suc k))
+unfolding slotsFault rising
+slots-step N k l = let more : 64 - k ≡ suc (64 - suc k) = omega arith in ap (λ n. foldr _then_ 0 (map (slotFault N) (rising k n))) more

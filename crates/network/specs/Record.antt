@@ -1,0 +1,118 @@
+-- The record of a network (the paper's plan record) and its test.
+--
+--   r when b         the refusal r where b holds, else 0
+--   r then s         r unless it is 0, else s: the first fault decides
+--   sizeFault, pairFault, terminalFault, endFault, absentFault      the rules of the paper's table "Who causes a refusal"
+--   slots            the numbers of the 64 edge slots, rising
+--   slot N k         what slot k holds
+--   slotFault N k    its fault, and slotsFault N k n the first fault of the n slots from k on
+--   faultOf N        the record's first fault, 0 if it has none; a record is accepted if it is 0
+--   noNetwork        the all-zero record
+--   bare n s t       the network of n nodes with source s, sink t and no edge
+--   withEdge N k a b N with the edge k from a to b
+use mathlib.Core.Bool.{Bool, cond, _||_}
+use mathlib.Core.List.{List, [], _∷_, map, foldr}
+use mathlib.Core.Path.{_≡_}
+use Prim.Native.Nat.{ℕ, zero, suc, _≤_, _<_, _^_}
+use lib.Dec.{leb, ltb, eqb}
+use lib.ListN.{length, getD, set, replicate}
+use Rattle.bitset.specs.Members.{has, insert}
+use Rattle.network.specs.declared.Network.{Network}
+
+infix 30 _when_
+infixr 25 _then_
+unfoldable pub _when_ : ℕ → Bool → ℕ
+r when b = cond b r 0
+
+unfoldable pub _then_ : ℕ → ℕ → ℕ
+zero then s = s
+suc r then s = suc r
+
+-- ---- the rules
+
+-- 4: point count not 2 to 32
+unfoldable pub sizeFault : ℕ → ℕ
+sizeFault n = 4 when (ltb n 2 || ltb 32 n)
+
+-- Two points that must be below the point count, else the first refusal, and differ, else the second.
+unfoldable pub pairFault : ℕ → ℕ → ℕ → ℕ → ℕ → ℕ
+pairFault outside same n a b = outside when (leb n a || leb n b) then same when eqb a b
+
+-- 5: server or room not below the point count; 6: server and room the same point
+abbrev pub terminalFault : ℕ → ℕ → ℕ → ℕ
+terminalFault = pairFault 5 6
+
+-- 9: a cable end not below the point count; 10: both ends of a cable at one point
+abbrev pub endFault : ℕ → ℕ → ℕ → ℕ
+endFault = pairFault 9 10
+
+-- 13: an absent cable with an end not 0
+unfoldable pub absentFault : ℕ → ℕ → ℕ
+absentFault a b = 13 when (ltb 0 a || ltb 0 b)
+
+-- ---- the record test
+
+-- The n numbers from k on.
+unfoldable pub rising : ℕ → ℕ → List ℕ
+rising k zero = []
+rising k (suc n) = k ∷ rising (suc k) n
+
+abbrev pub slots : List ℕ
+slots = rising 0 64
+
+-- Edge k is present, and its two ends.
+abbrev pub hasEdge : Network → ℕ → Bool
+hasEdge N k = has (N .present .0) k
+
+abbrev pub firstEnd : Network → ℕ → ℕ
+firstEnd N k = getD (N .first) k 0
+
+abbrev pub secondEnd : Network → ℕ → ℕ
+secondEnd N k = getD (N .second) k 0
+
+-- What slot k holds: whether its edge is present, and its ends.
+abbrev pub Slot : Type 0
+Slot = Bool × ℕ × ℕ
+
+abbrev pub slot : Network → ℕ → Slot
+slot N k = (hasEdge N k, firstEnd N k, secondEnd N k)
+
+-- 9 and 10 if present, 13 if absent
+abbrev pub slotFaultOf : ℕ → Slot → ℕ
+slotFaultOf n s = cond (s .0) (endFault n (s .1) (s .2)) (absentFault (s .1) (s .2))
+
+unfoldable pub slotFault : Network → ℕ → ℕ
+slotFault N k = slotFaultOf (N .nodes) (slot N k)
+
+-- The first fault of the n slots from k on.
+unfoldable pub slotsFault : Network → ℕ → ℕ → ℕ
+slotsFault N k n = foldr _then_ 0 (map (slotFault N) (rising k n))
+
+-- The record test: 4, 5, 6, then slot by slot.
+unfoldable pub faultOf : Network → ℕ
+faultOf N = sizeFault (N .nodes) then terminalFault (N .nodes) (N .source) (N .sink) then slotsFault N 0 64
+
+-- ---- records
+
+unfoldable pub bare : ℕ → ℕ → ℕ → Network
+bare n s t =
+    record { nodes = n; source = s; sink = t; present = record { 0 = 0 }; first = replicate 64 0; second = replicate 64 0 }
+
+abbrev pub noNetwork : Network
+noNetwork = bare 0 0 0
+
+unfoldable pub withEdge : Network → ℕ → ℕ → ℕ → Network
+withEdge N k a b = record {
+  nodes = N .nodes;
+  source = N .source;
+  sink = N .sink;
+  present = record { 0 = insert (N .present .0) k };
+  first = set (N .first) k a;
+  second = set (N .second) k b;
+}
+
+-- What the types of the code say of any record: 64 slots, and no edge past them.
+pub record Stored (N : Network) : Type 0 where
+  pub firsts : length (N .first) ≡ 64
+  pub seconds : length (N .second) ≡ 64
+  pub edges : N .present .0 < 2 ^ 64

@@ -1,0 +1,112 @@
+// The record test, and the rules that it shares with the reader.
+use crate::Network;
+use crate::refusal::ABSENT_EDGE_WITH_END;
+use crate::refusal::BAD_SIZE;
+use crate::refusal::END_OUTSIDE;
+use crate::refusal::SAME_ENDS;
+use crate::refusal::SAME_TERMINALS;
+use crate::refusal::TERMINAL_OUTSIDE;
+ghost use mathlib.Core.Path.{_≡_};
+ghost use Prim.Native.Nat.{_<_};
+ghost use Rattle.network.specs.Record.{sizeFault, pairFault, terminalFault, endFault, absentFault, slotFaultOf, slotsFault, faultOf};
+
+pub fn size_fault(nodes: u8) -> u8
+    ensures { λ r. ⌜ r ≡ sizeFault nodes ⌝ }
+{
+    if nodes < 2 {
+        return BAD_SIZE;
+    }
+    if 32 < nodes {
+        return BAD_SIZE;
+    }
+    0
+}
+
+// The fault of two nodes that must be below the node count, else `outside`, and differ, else `same`.
+fn pair_fault(outside: u8, same: u8, nodes: u8, a: u8, b: u8) -> u8
+    requires { ⌜ 0 < outside ⌝ }
+    ensures { λ r. ⌜ r ≡ pairFault outside same nodes a b ⌝ }
+{
+    if nodes <= a {
+        return outside;
+    }
+    if nodes <= b {
+        return outside;
+    }
+    if a == b {
+        return same;
+    }
+    0
+}
+
+pub fn terminal_fault(nodes: u8, source: u8, sink: u8) -> u8
+    ensures { λ r. ⌜ r ≡ terminalFault nodes source sink ⌝ }
+{
+    pair_fault(TERMINAL_OUTSIDE, SAME_TERMINALS, nodes, source, sink)
+}
+
+pub fn end_fault(nodes: u8, first: u8, second: u8) -> u8
+    ensures { λ r. ⌜ r ≡ endFault nodes first second ⌝ }
+{
+    pair_fault(END_OUTSIDE, SAME_ENDS, nodes, first, second)
+}
+
+pub fn absent_fault(first: u8, second: u8) -> u8
+    ensures { λ r. ⌜ r ≡ absentFault first second ⌝ }
+{
+    if 0 < first {
+        return ABSENT_EDGE_WITH_END;
+    }
+    if 0 < second {
+        return ABSENT_EDGE_WITH_END;
+    }
+    0
+}
+
+// The fault of a slot that holds these ends, with its edge present or not.
+fn slot_fault(nodes: u8, present: bool, first: u8, second: u8) -> u8
+    ensures { λ r. ⌜ r ≡ slotFaultOf nodes (present, first, second) ⌝ }
+{
+    if present {
+        end_fault(nodes, first, second)
+    } else {
+        absent_fault(first, second)
+    }
+}
+
+// The first fault of the slots, rising.
+fn slots_fault(network: Network) -> u8
+    ensures { λ r. ⌜ r ≡ slotsFault network 0 64 ⌝ }
+{
+    let present = network.present;
+    let mut k: u32 = 0;
+    while k < 64 {
+        let at = k as usize;
+        let fault = slot_fault(
+            network.nodes,
+            present.contains(k),
+            network.first[at],
+            network.second[at],
+        );
+        if fault != 0 {
+            return fault;
+        }
+        k += 1;
+    }
+    0
+}
+
+// The record test: the number of the record's first fault, 0 if it has none.
+pub fn fault(network: Network) -> u8
+    ensures { λ r. ⌜ r ≡ faultOf network ⌝ }
+{
+    let size = size_fault(network.nodes);
+    if size != 0 {
+        return size;
+    }
+    let terminals = terminal_fault(network.nodes, network.source, network.sink);
+    if terminals != 0 {
+        return terminals;
+    }
+    slots_fault(network)
+}

@@ -1,0 +1,80 @@
+//! The plan record.
+
+use std::fmt;
+
+/// Slots for edges (cables).
+pub const SLOTS: usize = 64;
+
+/// A plan record as plain fields; anything may stand in them.
+#[derive(Clone, PartialEq, Eq)]
+pub struct Record {
+    /// The point count.
+    pub nodes: u8,
+    /// The server.
+    pub source: u8,
+    /// The room.
+    pub sink: u8,
+    /// The set of cables present: cable k weighs 2^k.
+    pub present: u64,
+    /// The first end of each cable.
+    pub first: [u8; SLOTS],
+    /// The second end of each cable.
+    pub second: [u8; SLOTS],
+}
+
+impl Record {
+    /// A record without edges.
+    pub fn bare(nodes: u8, source: u8, sink: u8) -> Record {
+        Record {
+            nodes,
+            source,
+            sink,
+            ..Record::default()
+        }
+    }
+
+    /// The same record with one more edge.
+    pub fn with(mut self, edge: usize, first: u8, second: u8) -> Record {
+        self.present |= 1 << edge;
+        self.first[edge] = first;
+        self.second[edge] = second;
+        self
+    }
+
+    /// Whether the edge is present.
+    pub fn holds(&self, edge: usize) -> bool {
+        self.present >> edge & 1 == 1
+    }
+}
+
+/// The all-zero record.
+impl Default for Record {
+    fn default() -> Record {
+        Record {
+            nodes: 0,
+            source: 0,
+            sink: 0,
+            present: 0,
+            first: [0; SLOTS],
+            second: [0; SLOTS],
+        }
+    }
+}
+
+/// Only slots that are present or not zero are shown.
+impl fmt::Debug for Record {
+    fn fmt(&self, f: &mut fmt::Formatter<'_>) -> fmt::Result {
+        write!(
+            f,
+            "nodes {}, source {}, sink {}, present {:#x}",
+            self.nodes, self.source, self.sink, self.present
+        )?;
+        for edge in 0..SLOTS {
+            let ends = (self.first[edge], self.second[edge]);
+            if self.holds(edge) || ends != (0, 0) {
+                write!(f, ", {edge}: {}-{}", ends.0, ends.1)?;
+            }
+        }
+        Ok(())
+    }
+}

@@ -1,0 +1,199 @@
+//! Random plans, whole and damaged: the same refusal and the same record from the library and from
+//! the reference; what is accepted is written back unchanged.
+
+use cutlist_tests::lent;
+use cutlist_tests::plans::{self, Damage};
+use cutlist_tests::record::Record;
+use cutlist_tests::reference::{DECIDING, LONGEST_PLAN};
+use cutlist_tests::rng::Rng;
+use cutlist_tests::tally::Tally;
+use cutlist_tests::{compare, sys};
+
+#[test]
+fn whole_plans_are_accepted_and_written_back() {
+    let mut rng = Rng::new(1);
+    let (mut none, mut all, mut gaps, mut parallel) = (0, 0, 0, 0);
+    let mut sizes = [0; 33];
+    for _ in 0..100_000 {
+        let record = plans::record(&mut rng);
+        let plan = plans::bytes(&record);
+        assert_eq!(sys::decode(&plan), (0, record.clone()));
+        assert_eq!(compare::round_trip(&plan), 0);
+
+        let edges = record.present.count_ones();
+        sizes[usize::from(record.nodes)] += 1;
+        none += u32::from(edges == 0);
+        all += u32::from(edges == 64);
+        gaps += u32::from(record.present.wrapping_add(1) & record.present != 0);
+        parallel += u32::from(has_parallel(&record));
+    }
+    assert!(sizes[2..].iter().all(|&size| size > 1000), "{sizes:?}");
+    assert!([none, all, gaps, parallel].iter().all(|&n| n > 10_000));
+}
+
+/// Whether two edges join the same nodes.
+fn has_parallel(record: &Record) -> bool {
+    let mut seen = [0u32; 32];
+    (0..64).filter(|&edge| record.holds(edge)).any(|edge| {
+        let (one, other) = (record.first[edge], record.second[edge]);
+        let (low, high) = (one.min(other), one.max(other));
+        let row = &mut seen[usize::from(low)];
+        let again = *row >> high & 1 == 1;
+        *row |= 1 << high;
+        again
+    })
+}
+
+/// Every proper beginning of an accepted plan stops early. Right behind the cut stands the rest of
+/// the plan, so that a reader who looks past the last byte would go on.
+#[test]
+fn a_plan_cut_anywhere_is_1() {
+    let mut rng = Rng::new(2);
+    let mut cuts = 0;
+    for _ in 0..3_000 {
+        let plan = plans::bytes(&plans::record(&mut rng));
+        for cut in 0..plan.len() {
+            let read = sys::decode_before(&plan[..cut], &plan[cut..]);
+            assert_eq!(read, (1, Record::default()), "{plan:02X?} cut at {cut}");
+            cuts += 1;
+        }
+    }
+    assert!(cuts > 200_000, "{cuts} cuts");
+}
+
+/// What stands behind the plan in memory changes nothing.
+#[test]
+fn bytes_behind_the_plan_are_not_read() {
+    let mut rng = Rng::new(3);
+    let mut tally = Tally::default();
+    for round in 0..60_000 {
+        let plan = match round % 3 {
+            0 => plans::bytes(&plans::record(&mut rng)),
+            1 => Damage::Cut.plan(&mut rng),
+            _ => rng.pick(&Damage::ALL).plan(&mut rng),
+        };
+        let behind = rng.below(12);
+        let beyond: Vec<u8> = (0..behind).map(|_| plans::any_byte(&mut rng)).collect();
+        tally.count(compare::decode_before(&plan, &beyond));
+    }
+    tally.assert_each(0..=10, 100);
+}
+
+#[test]
+fn damaged_plans_are_read_alike() {
+    let mut rng = Rng::new(4);
+    let mut whole = Tally::default();
+    for damage in Damage::ALL {
+        let mut tally = Tally::default();
+        for _ in 0..30_000 {
+            let number = compare::round_trip(&damage.plan(&mut rng));
+            tally.count(number);
+            whole.count(number);
+        }
+        // The numbers that this damage must show, and whether it shows no others.
+        let (numbers, only): (&[u8], bool) = match damage {
+            Damage::Cut => (&[1], true),
+            Damage::Flip => (&[0, 2, 3, 4, 5, 6, 7, 8, 9, 10], false),
+            Damage::Insert => (&[1, 2, 3, 4, 5, 6, 7, 8, 9, 10], false),
+            Damage::Lose => (&[1, 2, 4, 5, 8, 9], false),
+            Damage::Append => (&[3], true),
+            Damage::SwapCommands => (&[0, 2, 3, 8], true),
+            Damage::RepeatCommand => (&[2, 3, 8], true),
+            Damage::LoseCommand => (&[0, 1, 2], true),
+            Damage::OneEdgeTooMany => (&[1, 7, 8], true),
+            Damage::EdgeOutOfOrder => (&[8], true),
+            Damage::ValueOutOfRange => (&[0, 4, 5, 6, 7, 8, 9, 10], true),
+            Damage::EqualEnds => (&[6, 10], true),
+        };
+        tally.assert_each(numbers.iter().copied(), 10);
+        if only {
+            tally.assert_only(numbers);
+        }
+    }
+    whole.assert_each(0..=10, 1000);
+}
+
+/// Plans put together from few values, so that many faults stand in one plan.
+#[test]
+fn plans_with_many_faults_are_read_alike() {
+    let mut rng = Rng::new(5);
+    let mut tally = Tally::default();
+    for _ in 0..200_000 {
+        let nodes = rng.pick(&[1, 2, 3, 4, 32, 33]);
+        let mut plan = vec![0x50, nodes, 0x53, rng.below(4) as u8, rng.below(4) as u8];
+        for _ in 0..rng.below(6) {
+            let edge = rng.pick(&[0, 1, 2, 3, 4, 5, 6, 7, 62, 63, 64]);
+            plan.extend([0x43, edge, rng.below(4) as u8, rng.below(4) as u8]);
+        }
+        plan.push(0x45);
+        if rng.once_in(4) {
+            plan.insert(rng.below(plan.len() + 1), plans::any_byte(&mut rng));
+        }
+        if rng.once_in(4) {
+            plan.truncate(rng.below(plan.len() + 1));
+        }
+        tally.count(compare::round_trip(&plan));
+    }
+    tally.assert_each(0..=10, 500);
+}
+
+/// A plan of at least 265 bytes is decided by the first 265, and is neither accepted nor cut short.
+#[test]
+fn the_first_265_bytes_decide() {
+    let mut rng = Rng::new(6);
+    let mut tally = Tally::default();
+    for round in 0..60_000 {
+        let mut plan = match round % 4 {
+            0 => plans::bytes(&plans::record_with(&mut rng, u64::MAX)),
+            1 => Damage::OneEdgeTooMany.plan(&mut rng),
+            2 => {
+                let mut plan = plans::bytes(&plans::record(&mut rng));
+                plan.pop();
+                plan
+            }
+            _ => rng.pick(&Damage::ALL).plan(&mut rng),
+        };
+        let length = DECIDING + rng.below(200);
+        while plan.len() < length {
+            let byte = if rng.once_in(2) {
+                plans::any_byte(&mut rng)
+            } else {
+                0x43
+            };
+            plan.push(byte);
+        }
+        assert!(plan.len() <= lent::LONGEST);
+        let (number, record) = sys::decode(&plan);
+        assert_eq!(sys::decode(&plan[..DECIDING]), (number, record));
+        tally.count(compare::decode(&plan));
+    }
+    tally.assert_only(&[2, 3, 4, 5, 6, 7, 8, 9, 10]);
+    tally.assert_each(2..=10, 100);
+}
+
+/// No accepted plan is longer than 262 bytes: the longest cannot be made longer by bytes anywhere.
+#[test]
+fn nothing_can_be_added_to_the_longest_plan() {
+    let mut rng = Rng::new(7);
+    let mut tally = Tally::default();
+    for _ in 0..100 {
+        let plan = plans::bytes(&plans::record_with(&mut rng, u64::MAX));
+        assert_eq!(plan.len(), LONGEST_PLAN);
+        assert_eq!(compare::round_trip(&plan), 0);
+        for at in 0..=plan.len() {
+            let command = [
+                0x43,
+                rng.byte(),
+                plans::limit(&mut rng),
+                plans::limit(&mut rng),
+            ];
+            for more in [&command[..1 + rng.below(3)], &command] {
+                let longer = [&plan[..at], more, &plan[at..]].concat();
+                let number = compare::decode(&longer);
+                assert_ne!(number, 0, "{longer:02X?}");
+                tally.count(number);
+            }
+        }
+    }
+    tally.assert_each([2, 3, 4, 5, 7, 8, 9], 100);
+}

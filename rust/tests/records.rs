@@ -1,0 +1,221 @@
+//! Records built field by field: the record test finds the first fault in the paper's order, and
+//! the writer refuses with that number before it looks at the buffer.
+
+use cutlist_tests::compare;
+use cutlist_tests::plans;
+use cutlist_tests::record::{Record, SLOTS};
+use cutlist_tests::rng::Rng;
+use cutlist_tests::sys;
+use cutlist_tests::tally::Tally;
+
+/// The record's first fault is `number`, and it is refused by it whatever is lent.
+fn assert_fault(record: &Record, number: u8) {
+    assert_eq!(sys::fault(record), number, "{record:?}");
+    assert_eq!(compare::fault(record), number, "{record:?}");
+    let before = [0xAA; 270];
+    for room in [0, 5, 262, 270] {
+        let mut memory = before;
+        let answer = sys::encode(record, &mut memory[..room]);
+        assert_eq!(answer, (number, 0), "{record:?}");
+        assert_eq!(memory, before, "{record:?}");
+    }
+}
+
+/// The record after a change.
+fn changed(record: &Record, change: impl FnOnce(&mut Record)) -> Record {
+    let mut record = record.clone();
+    change(&mut record);
+    record
+}
+
+/// A fault in one slot, by its number.
+fn spoil(record: &mut Record, slot: usize, number: u8) {
+    let (present, first, second) = match number {
+        9 => (true, 0, record.nodes),
+        10 => (true, 1, 1),
+        13 => (false, 0, 1),
+        _ => unreachable!("{number} is no fault of a slot"),
+    };
+    record.present = record.present & !(1 << slot) | u64::from(present) << slot;
+    record.first[slot] = first;
+    record.second[slot] = second;
+}
+
+#[test]
+fn the_all_zero_record_is_4() {
+    assert_fault(&Record::default(), 4);
+}
+
+#[test]
+fn one_fault_alone_gives_its_number() {
+    let good = Record::bare(4, 0, 3).with(0, 0, 1).with(63, 2, 3);
+    assert_eq!(compare::fault(&good), 0);
+    for nodes in [0, 1, 33, 64, 128, 255] {
+        assert_fault(&changed(&good, |r| r.nodes = nodes), 4);
+    }
+    for high in [4, 5, 32, 128, 255] {
+        assert_fault(&changed(&good, |r| r.source = high), 5);
+        assert_fault(&changed(&good, |r| r.sink = high), 5);
+    }
+    assert_fault(&changed(&good, |r| r.sink = r.source), 6);
+    for slot in 0..SLOTS {
+        for high in [4, 5, 32, 128, 255] {
+            assert_fault(&good.clone().with(slot, high, 0), 9);
+            assert_fault(&good.clone().with(slot, 0, high), 9);
+        }
+        for node in 0..4 {
+            assert_fault(&good.clone().with(slot, node, node), 10);
+        }
+        for end in [1, 3, 4, 128, 255] {
+            for (first, second) in [(end, 0), (0, end), (end, end)] {
+                let mut record = good.clone().with(slot, first, second);
+                record.present &= !(1 << slot);
+                assert_fault(&record, 13);
+            }
+        }
+    }
+}
+
+#[test]
+fn in_one_slot_9_comes_before_10() {
+    for slot in 0..SLOTS {
+        for end in [7, 8, 32, 255] {
+            assert_fault(&Record::bare(7, 0, 1).with(slot, end, end), 9);
+        }
+    }
+}
+
+#[test]
+fn the_lowest_faulty_slot_decides() {
+    let mut rng = Rng::new(11);
+    let mut tally = Tally::default();
+    for high in 1..SLOTS {
+        for low in 0..high {
+            for number in [9, 10, 13] {
+                for later in [9, 10, 13] {
+                    let present = rng.draw();
+                    let mut record = plans::record_with(&mut rng, present);
+                    spoil(&mut record, low, number);
+                    spoil(&mut record, high, later);
+                    assert_eq!(sys::fault(&record), number, "{record:?}");
+                    tally.count(compare::fault(&record));
+                }
+            }
+        }
+    }
+    tally.assert_only(&[9, 10, 13]);
+    tally.assert_each([9, 10, 13], 3 * 2016);
+}
+
+#[test]
+fn points_server_and_room_come_before_the_slots_in_the_order_4_5_6() {
+    for number in [9, 10, 13] {
+        for slot in [0, 1, 31, 32, 63] {
+            let mut record = Record::bare(5, 0, 4);
+            spoil(&mut record, slot, number);
+            assert_fault(&record, number);
+            assert_fault(&changed(&record, |r| r.sink = 0), 6);
+            assert_fault(&changed(&record, |r| r.sink = 5), 5);
+            assert_fault(&changed(&record, |r| r.source = 5), 5);
+            // Server and room at one point, and too high.
+            let both = changed(&record, |r| (r.source, r.sink) = (5, 5));
+            assert_fault(&both, 5);
+            assert_fault(&changed(&both, |r| r.nodes = 1), 4);
+            assert_fault(&changed(&both, |r| r.nodes = 33), 4);
+            assert_fault(&changed(&record, |r| (r.nodes, r.sink) = (33, 0)), 4);
+        }
+    }
+}
+
+#[test]
+fn all_point_counts_with_servers_and_rooms() {
+    let values: Vec<u8> = (0..=40).chain([63, 64, 127, 128, 254, 255]).collect();
+    let mut tally = Tally::default();
+    for nodes in 0..=255 {
+        for &source in &values {
+            for &sink in &values {
+                tally.count(compare::fault(&Record::bare(nodes, source, sink)));
+            }
+        }
+    }
+    tally.assert_only(&[0, 4, 5, 6]);
+    let pairs = (values.len() * values.len()) as u64;
+    assert_eq!(tally.of(4), 225 * pairs);
+    assert_eq!(tally.of(6), (2..=32).sum::<u64>());
+    assert_eq!(tally.of(0), (2..=32).map(|n| n * (n - 1)).sum::<u64>());
+}
+
+#[test]
+fn all_pairs_of_ends_in_one_slot() {
+    for (nodes, slot) in [(2, 0), (3, 63), (17, 31), (31, 32), (32, 1)] {
+        let mut present = Tally::default();
+        let mut absent = Tally::default();
+        for first in 0..=255 {
+            for second in 0..=255 {
+                let mut record = Record::bare(nodes, 1, 0).with(slot, first, second);
+                present.count(compare::fault(&record));
+                record.present = 0;
+                absent.count(compare::fault(&record));
+            }
+        }
+        let nodes = u64::from(nodes);
+        assert_eq!(present.of(9), 65536 - nodes * nodes);
+        assert_eq!(present.of(10), nodes);
+        assert_eq!(present.of(0), nodes * nodes - nodes);
+        assert_eq!((absent.of(0), absent.of(13)), (1, 65535));
+    }
+}
+
+/// Random records with a few fields changed: the same fault by library and reference, and the
+/// writer gives that number, 15 only where there is no fault.
+#[test]
+fn random_records_are_tested_and_written_alike() {
+    let mut rng = Rng::new(12);
+    let mut tested = Tally::default();
+    let mut written = Tally::default();
+    for _ in 0..200_000 {
+        let mut record = plans::record(&mut rng);
+        for _ in 0..rng.below(4) {
+            plans::corrupt(&mut rng, &mut record);
+        }
+        let fault = compare::fault(&record);
+        tested.count(fault);
+        let room = match rng.below(4) {
+            0 => 0,
+            1 => 262 + rng.below(20),
+            _ => rng.below(262),
+        };
+        let refusal = compare::encode(&record, &rng.bytes(room));
+        assert!(refusal == fault || (fault, refusal) == (0, 15));
+        written.count(refusal);
+    }
+    let faults = [0, 4, 5, 6, 9, 10, 13];
+    tested.assert_only(&faults);
+    tested.assert_each(faults, 1000);
+    written.assert_each(faults.into_iter().chain([15]), 1000);
+}
+
+/// Records of random bytes throughout.
+#[test]
+fn wild_records_are_tested_alike() {
+    let mut rng = Rng::new(13);
+    let mut tally = Tally::default();
+    for _ in 0..200_000 {
+        let mut record = Record {
+            nodes: 2 + rng.below(32) as u8,
+            source: rng.below(34) as u8,
+            sink: rng.below(34) as u8,
+            present: rng.draw(),
+            ..Record::default()
+        };
+        let bound = 1 + rng.below(33);
+        for slot in 0..SLOTS {
+            if record.holds(slot) || rng.once_in(40) {
+                record.first[slot] = rng.below(bound) as u8;
+                record.second[slot] = rng.below(bound) as u8;
+            }
+        }
+        tally.count(compare::fault(&record));
+    }
+    tally.assert_each([4, 5, 6, 9, 10, 13], 1000);
+}
