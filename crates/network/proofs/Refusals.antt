@@ -4,7 +4,9 @@ use mathlib.Core.Bool.{Bool, true, false, _||_, true≢false}
 use mathlib.Core.Path.{_≡_, refl, ap, _∙_}
 use Prim.Native.Nat.{ℕ, zero, suc, _≤_, _<_, zero-le}
 use native.Mathlib.Omega.{arith}
-use Rattle.network.specs.Record.{_when_, _then_}
+use borrow.Author.Tests.{ltb-false, leb-false, eqb-false}
+use lib.Dec.{leb, ltb, eqb}
+use Rattle.network.specs.Record.{_when_, _then_, sizeFault, pairFault}
 
 -- Two rules in a row find no fault exactly if neither does.
 pub then-none : (r s : ℕ) → (r then s) ≡ 0 → (r ≡ 0) × (s ≡ 0)
@@ -54,3 +56,20 @@ pub when-bounded : (m r : ℕ) (b : Bool) → r ≤ m → (r when b) ≤ m
 unfolding _when_
 when-bounded m r true p = p
 when-bounded m r false p = zero-le
+
+-- ---- what the rules say of the values that keep them
+
+-- A size without a fault is 2 to 32.
+pub size-none : (n : ℕ) → sizeFault n ≡ 0 → (2 ≤ n) × (n ≤ 32)
+unfolding sizeFault
+size-none n e =
+    let q = or-none (ltb n 2) (ltb 32 n) (when-none 4 (ltb n 2 || ltb 32 n) (omega arith) e) in
+    (ltb-false n 2 (q .0), ltb-false 32 n (q .1))
+
+-- Two nodes without a fault are below the node count, and differ.
+pub pair-none : (x y n a b : ℕ) → 0 < x → 0 < y → pairFault x y n a b ≡ 0 → (a < n) × (b < n) × (a ≡ b → ⊥)
+unfolding pairFault
+pair-none x y n a b h k e =
+    let p = then-none (x when (leb n a || leb n b)) (y when eqb a b) e in
+    let q = or-none (leb n a) (leb n b) (when-none x (leb n a || leb n b) h (p .0)) in
+    (leb-false n a (q .0), leb-false n b (q .1), eqb-false a b (when-none y (eqb a b) k (p .1)))

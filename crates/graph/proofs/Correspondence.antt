@@ -1,0 +1,164 @@
+-- The mincuts and the source sides correspond one to one, as they are computed.
+-- Assumes a sound network.
+use mathlib.Core.Path.{_≡_, refl, sym, ap, _∙_}
+use mathlib.Core.Bool.{Bool, true, false, xor, _&&_}
+use mathlib.Core.Logic.{_⊎_, inl, inr, _↔_, Iff·trans, Iff·symm, Iff·and, Iff·rfl}
+use Prim.Native.Nat.{ℕ, _^_}
+use lib.Dec.{T}
+use Rattle.bitset.specs.Members.{has, _⊆_, _∖_}
+use Rattle.bitset.proofs.Subsets.{⊆-antisym}
+use Rattle.network.specs.declared.Network.{Network}
+use Rattle.network.specs.Record.{firstEnd, secondEnd}
+use Rattle.graph.specs.Paths.{Joins, Minpath}
+use Rattle.graph.specs.Cuts.{Mincut, RelevantEdge, RelevantNode, OnSourceSide}
+use Rattle.graph.specs.SourceSides.{Beyond, SourceSide, Crosses, Boundary}
+use Rattle.graph.specs.Relevant.{relevantNodes, relevantEdges, reachIn, sourceSideOf, boundaryOf}
+use Rattle.graph.proofs.Tests.{T-and}
+use Rattle.graph.proofs.Sets.{_∈_, in-minus, in-single}
+use Rattle.graph.proofs.Walks.{joins-sym, end-met}
+use Rattle.graph.proofs.Nodes.{carried}
+use Rattle.graph.proofs.Cuts.{mincut-none}
+use Rattle.graph.proofs.Sound.{Sound}
+use Rattle.graph.proofs.RelevantNodes.{end-relevant}
+use Rattle.graph.proofs.RelevantEdges.{relevant-present}
+use Rattle.graph.proofs.EdgeSets.{in-chosen, edge-lt, in-reach-over}
+use Rattle.graph.proofs.Relevant.{in-relevantNodes, in-relevantEdges}
+use Rattle.graph.proofs.Inside.{hangs-same, hangs-reach}
+use Rattle.graph.proofs.SourceSides.{side-mincut, boundary-side, mincut-boundary, mincut-side}
+
+-- Exactly one of two tests holds.
+T-xor : (a b : Bool) → T (xor a b) ↔ ((T a × (T b → ⊥)) ⊎ (T b × (T a → ⊥)))
+unfolding xor
+T-xor true true = (λ t. absurd t, λ c. elim c [ inl k ↦ k .1 tt | inr k ↦ k .1 tt ])
+T-xor true false = (λ t. inl (tt, λ k. k), λ c. tt)
+T-xor false true = (λ t. inr (tt, λ k. k), λ c. tt)
+T-xor false false = (λ t. absurd t, λ c. elim c [ inl k ↦ k .0 | inr k ↦ k .0 ])
+
+-- Two sets are equal if each number is a member of both or of neither.
+same-set : {s t : ℕ} → ((k : ℕ) → (k ∈ s) ↔ (k ∈ t)) → s ≡ t
+same-set {s} {t} same = ⊆-antisym s t (λ k. same k .0) (λ k. same k .1)
+
+module _ (N : Network) (S : Sound N) where
+  -- A present edge crosses exactly if one of its stored ends is in s.
+  crosses-stored : (s e : ℕ) → e ∈ N .present .0 → T (xor (has s (firstEnd N e)) (has s (secondEnd N e))) ↔ Crosses N s e
+  unfolding Joins
+  crosses-stored s e m =
+      let a : ℕ = firstEnd N e in
+      let b : ℕ = secondEnd N e in (
+        λ t. elim (T-xor (has s a) (has s b) .0 t) [
+          | inl k ↦ record { near = a; far = b; joins = (m, inl (refl, refl)); near-in = k .0; far-out = k .1 }
+          | inr k ↦ record { near = b; far = a; joins = (m, inr (refl, refl)); near-in = k .0; far-out = k .1 }
+        ],
+        λ k. T-xor (has s a) (has s b) .1 (elim (k .joins .1) [
+          | inl q ↦ inl (rw (q .0) (k .near-in), rw (q .1) (k .far-out))
+          | inr q ↦ inr (rw (q .1) (k .near-in), rw (q .0) (k .far-out))
+        ]),
+      )
+
+  -- The boundary is what is computed.
+  pub in-boundaryOf : (s : ℕ) → Boundary N s (boundaryOf N s)
+  unfolding boundaryOf
+  in-boundaryOf s e =
+      let r : ℕ = relevantEdges N in
+      let present : RelevantEdge N e → e ∈ N .present .0 = relevant-present N e in
+      let test = in-chosen (λ k. has r k && xor (has s (firstEnd N k)) (has s (secondEnd N k))) 64 e in
+      let both = T-and (has r e) (xor (has s (firstEnd N e)) (has s (secondEnd N e))) in (
+        λ m.
+            let t = both .0 (test .0 m .1) in
+            let k = in-relevantEdges N S e .0 (t .0) in
+            (k, crosses-stored s e (present k) .0 (t .1)),
+        λ k.
+            let there = present (k .0) in
+            test .1 (edge-lt N (S .bounded) e there, both .1 (in-relevantEdges N S e .1 (k .0), crosses-stored s e there .1 (k .1))),
+      )
+
+  -- The source side is what is computed.
+  pub in-sourceSideOf : (c v : ℕ) → (v ∈ sourceSideOf N c) ↔ OnSourceSide N c v
+  unfolding sourceSideOf
+  in-sourceSideOf c v =
+      let kept : (e : ℕ) → (e ∈ (relevantEdges N ∖ c)) ↔ (RelevantEdge N e × (e ∈ c → ⊥)) =
+      λ e. Iff·trans (in-minus (relevantEdges N) c e) (Iff·and (in-relevantEdges N S e) Iff·rfl) in
+      let reach = in-reach-over N (S .bounded) (relevantEdges N ∖ c) (λ e m. relevant-present N e (kept e .0 m .0)) (N .source) v in (
+        λ m.
+            let (p, k) = reach .0 m in
+            record {
+              relevant = carried N (RelevantNode N) p (N .source) v (k .0)
+                  (λ e i x y j a. end-relevant N e y x (kept e .0 (k .1 e i) .0) (joins-sym N e x y j))
+                  (inl refl) v (end-met N p (N .source) v (k .0));
+              steps = p;
+              leads = k .0;
+              kept = λ e i. kept e .0 (k .1 e i);
+            },
+        λ o. reach .1 (o .steps, (o .leads, λ e i. kept e .1 (o .kept e i))),
+      )
+
+  -- A mincut has a source side, of which it is the boundary.
+  pub side-of-mincut : (c : ℕ) → Mincut N c → SourceSide N (sourceSideOf N c) × (boundaryOf N (sourceSideOf N c) ≡ c)
+  side-of-mincut c m =
+      let s : ℕ = sourceSideOf N c in (
+        mincut-side N (S .bounded) s c m (in-sourceSideOf c),
+        same-set (λ e. Iff·trans (in-boundaryOf s e) (Iff·symm (mincut-boundary N (S .bounded) s c m (in-sourceSideOf c) e))),
+      )
+
+  -- The boundary of a source side is a mincut, whose source side it is.
+  pub mincut-of-side : (s : ℕ) → SourceSide N s → Mincut N (boundaryOf N s) × (sourceSideOf N (boundaryOf N s) ≡ s)
+  mincut-of-side s side =
+      let c : ℕ = boundaryOf N s in (
+        side-mincut N s c side (in-boundaryOf s),
+        same-set (λ v. Iff·trans (in-sourceSideOf c v) (Iff·symm (boundary-side N s c side (in-boundaryOf s) v))),
+      )
+
+  -- Different source sides have different mincuts.
+  pub boundary-injective : (s t : ℕ) → SourceSide N s → SourceSide N t → boundaryOf N s ≡ boundaryOf N t → s ≡ t
+  boundary-injective s t a b e = sym (mincut-of-side s a .1) ∙ ap (sourceSideOf N) e ∙ mincut-of-side t b .1
+
+  -- Without a minpath the source alone is the only source side.
+  pub side-none : ((r : ℕ) → Minpath N r → ⊥) → (s : ℕ) → SourceSide N s ↔ (s ≡ 2 ^ N .source)
+  side-none none s = (
+    alone s,
+    λ e.
+        let side = side-of-mincut 0 (mincut-none N none 0 .1 refl) .0 in
+        rw (e, ← alone (sourceSideOf N 0) side) side,
+  )
+    where
+      relevant : (s v : ℕ) → SourceSide N s → v ∈ s → RelevantNode N v → v ≡ N .source
+      relevant s v side m (inl e) = e
+      relevant s v side m (inr (inl e)) = absurd (side .sink (rw e at m))
+      relevant s v side m (inr (inr (r, (k, i)))) = absurd (none r k)
+
+      alone : (s : ℕ) → SourceSide N s → s ≡ 2 ^ N .source
+      alone s side = same-set (λ v. (
+        λ m. in-single (N .source) v .1 (relevant s v side m (side .relevant v m)),
+        λ m. rw (in-single (N .source) v .0 m) (side .source),
+      ))
+
+  -- The relevant nodes outside s are those that are computed.
+  in-beyond : (s v : ℕ) → (v ∈ (relevantNodes N ∖ s)) ↔ Beyond N s v
+  in-beyond s v = Iff·trans (in-minus (relevantNodes N) s v) (Iff·and (in-relevantNodes N S v) Iff·rfl)
+
+  -- A source side is told by two reaches: source reaches all of it inside it, and sink all the rest of the relevant nodes outside.
+  pub side-reach : (s : ℕ) → SourceSide N s ↔ (
+      (s ⊆ relevantNodes N)
+      × (N .source ∈ s)
+      × (N .sink ∈ s → ⊥)
+      × (s ⊆ reachIn N s (N .source))
+      × ((relevantNodes N ∖ s) ⊆ reachIn N (relevantNodes N ∖ s) (N .sink))
+      )
+  side-reach s = (
+    λ side. (
+      λ v m. in-relevantNodes N S v .1 (side .relevant v m),
+      side .source,
+      side .sink,
+      hangs-reach N (S .bounded) s (N .source) (side .source) .0 (side .inside),
+      hangs-reach N (S .bounded) (relevantNodes N ∖ s) (N .sink) (in-beyond s (N .sink) .1 (inr (inl refl), side .sink)) .0
+          (hangs-same N (Beyond N s) (λ v. v ∈ (relevantNodes N ∖ s)) (λ v. Iff·symm (in-beyond s v)) (side .outside)),
+    ),
+    λ k. record {
+      relevant = λ v m. in-relevantNodes N S v .0 (k .0 v m);
+      source = k .1;
+      sink = k .2;
+      inside = hangs-reach N (S .bounded) s (N .source) (k .1) .1 (k .3);
+      outside = hangs-same N (λ v. v ∈ (relevantNodes N ∖ s)) (Beyond N s) (in-beyond s)
+          (hangs-reach N (S .bounded) (relevantNodes N ∖ s) (N .sink) (in-beyond s (N .sink) .1 (inr (inl refl), k .2)) .1 (k .4));
+    },
+  )

@@ -1,0 +1,164 @@
+-- Cuts: the mincuts are the least sets of edges that meet every minpath, the two families fix each other, and the tests are right.
+-- Assumes, where something is decided, that the edges have numbers below 64 and ends below the node count.
+use mathlib.Core.Path.{_≡_}
+use mathlib.Core.Bool.{Bool, not}
+use mathlib.Core.Logic.{_↔_, Dec·of-iff, Iff·symm, Iff·trans, Iff·and, Iff·not, Iff·rfl}
+use Prim.Native.Nat.{ℕ, _^_}
+use lib.Bits.{bitAnd}
+use lib.Dec.{T, eqb}
+use Rattle.bitset.specs.Members.{has, _⊆_, _∖_}
+use Rattle.bitset.proofs.Subsets.{⊆-trans, subset-and}
+use Rattle.network.specs.declared.Network.{Network}
+use Rattle.graph.specs.Paths.{Minpath, Connected, SameMinpaths}
+use Rattle.graph.specs.Cuts.{only, without, Cut, Mincut}
+use Rattle.graph.specs.MemberList.{members}
+use Rattle.graph.specs.Reach.{reachOf}
+use Rattle.graph.specs.CutTests.{severed, every, cutTest, mincutTest}
+use Rattle.graph.proofs.Tests.{T-not, T-then, T-eqb, T-every}
+use Rattle.graph.proofs.Sets.{_∈_, ∈-dec, in-and, minus-⊆, member-lt, in-members}
+use Rattle.graph.proofs.Minpaths.{minpath-present, walk-minpath, minpath-only, connected-minpath, minpath-least}
+use Rattle.graph.proofs.Reach.{Bounded, bounded-only, in-reach-single}
+use Rattle.graph.proofs.Families.{Holds, Transversal, Blocker, Decided, least-drop, transversal-up, transversal-same, transversal-rest, blocker-same, holds-inside, blocker-inside, blocker-none, transversal-shrink, meets-blocker, blocker-private, blocker-blocker, same-blocker}
+
+-- ---- cuts are transversals
+
+module _ (N : Network) where
+  -- A set of present edges is a cut exactly if without it the source is not connected to the sink.
+  pub cut-connected : (c : ℕ) → Cut N c ↔ ((c ⊆ N .present .0) × (Connected (without N c) (N .source) (N .sink) → ⊥))
+  unfolding only
+  cut-connected c = (
+    λ k. (k .present, λ w. let m = walk-minpath (without N c) (w .0) (w .1) in k .severs (m .0) (m .1 .0)),
+    λ k. record { present = k .0; severs = λ r m. k .1 (m .steps, m .leads) },
+  )
+
+  -- A set of present edges is a cut exactly if it meets every minpath.
+  pub cut-transversal : (c : ℕ) → Cut N c ↔ ((c ⊆ N .present .0) × Transversal (Minpath N) c)
+  cut-transversal c =
+      let rest = transversal-rest (Minpath N) (N .present .0) (minpath-present N) c in
+      let only-rest = minpath-only N (N .present .0 ∖ c) (minus-⊆ (N .present .0) c) in (
+        λ k. (k .present, rest .1 (λ h. k .severs (h .0) (only-rest (h .0) .1 (h .1)))),
+        λ k. record { present = k .0; severs = λ r m. rest .0 (k .1) (r, only-rest r .0 m) },
+      )
+
+  -- The mincuts are the blocker of the minpaths.
+  pub mincut-blocker : (c : ℕ) → Mincut N c ↔ Blocker (Minpath N) c
+  mincut-blocker c = (
+    λ m. record {
+      has = cut-transversal c .0 (m .cut) .1;
+      least = λ d h v. m .least d h (cut-transversal d .1 (⊆-trans d c (N .present .0) h (m .cut .present), v));
+    },
+    λ b. record {
+      cut = cut-transversal c .1 (blocker-inside (Minpath N) (N .present .0) (minpath-present N) c b, b .has);
+      least = λ d h k. b .least d h (cut-transversal d .0 k .1);
+    },
+  )
+
+  -- A cut is a mincut exactly if none of its members can be dropped.
+  pub mincut-drop : (c : ℕ) → Cut N c → Mincut N c ↔ ((e : ℕ) → e ∈ c → Cut N (c ∖ 2 ^ e) → ⊥)
+  mincut-drop c k =
+      let drop = least-drop (Transversal (Minpath N)) (transversal-up (Minpath N)) c (cut-transversal c .0 k .1) in
+      let inside : (e : ℕ) → (c ∖ 2 ^ e) ⊆ N .present .0 = λ e. ⊆-trans (c ∖ 2 ^ e) c (N .present .0) (minus-⊆ c (2 ^ e)) (k .present) in (
+        λ m e n d. drop .0 (mincut-blocker c .0 m) e n (cut-transversal (c ∖ 2 ^ e) .0 d .1),
+        λ f. mincut-blocker c .1 (drop .1 (λ e n v. f e n (cut-transversal (c ∖ 2 ^ e) .1 (inside e, v)))),
+      )
+
+  -- Without a minpath the empty set is the only mincut.
+  pub mincut-none : ((r : ℕ) → Minpath N r → ⊥) → (c : ℕ) → Mincut N c ↔ (c ≡ 0)
+  mincut-none none c = Iff·trans (mincut-blocker c) (blocker-none (Minpath N) none c)
+
+  -- ---- duality
+
+  module _ (B : Bounded N) where
+    -- A set of present edges holds a minpath exactly if over it the source reaches the sink.
+    pub minpath-reach : (h : ℕ) → h ⊆ N .present .0 → (N .sink ∈ reachOf (only N h) (2 ^ N .source)) ↔ Holds (Minpath N) h
+    minpath-reach h l = Iff·trans (in-reach-single (only N h) (bounded-only N B h l) (N .source) (N .sink)) (connected-minpath N h l)
+
+    -- Whether a set holds a minpath is decided.
+    pub minpaths-decided : Decided (Minpath N) (N .present .0)
+    minpaths-decided = record {
+      inside = minpath-present N;
+      decide = λ h.
+          let k : ℕ = bitAnd h (N .present .0) in
+          let l : k ⊆ N .present .0 = λ e m. in-and h (N .present .0) e .0 m .1 in
+          let holds = Iff·trans (minpath-reach k l) (holds-inside (Minpath N) (N .present .0) (minpath-present N) h) in
+          Dec·of-iff holds (∈-dec (N .sink) (reachOf (only N k) (2 ^ N .source)));
+    }
+
+    -- A cut holds a mincut.
+    pub cut-shrink : (c : ℕ) → Cut N c → (m : ℕ) × ((m ⊆ c) × Mincut N m)
+    cut-shrink c k =
+        let r = transversal-shrink minpaths-decided c (cut-transversal c .0 k .1) in
+        (r .0, (r .1 .0, mincut-blocker (r .0) .1 (r .1 .1)))
+
+    -- A set meets every mincut exactly if it holds a minpath.
+    pub meets-mincuts : (h : ℕ) → Transversal (Mincut N) h ↔ Holds (Minpath N) h
+    meets-mincuts h = Iff·trans (transversal-same (Mincut N) (Blocker (Minpath N)) mincut-blocker h) (meets-blocker minpaths-decided h)
+
+    -- Each member of a mincut is the only edge that the mincut shares with some minpath.
+    pub mincut-private : (c : ℕ) → Mincut N c → (e : ℕ) → e ∈ c
+        → (r : ℕ) × (Minpath N r × (e ∈ r) × ((k : ℕ) → k ∈ r → k ∈ c → k ≡ e))
+    mincut-private c m = blocker-private minpaths-decided c (mincut-blocker c .0 m)
+
+    -- The minpaths are the blocker of the mincuts.
+    pub minpath-blocker : (r : ℕ) → Minpath N r ↔ Blocker (Mincut N) r
+    minpath-blocker r =
+        Iff·trans (blocker-blocker minpaths-decided (minpath-least N) r)
+        (blocker-same (Blocker (Minpath N)) (Mincut N) (λ c. Iff·symm (mincut-blocker c)) r)
+
+-- Two networks have the same minpaths exactly if they have the same mincuts.
+pub same-minpaths : (N M : Network) → Bounded N → Bounded M → SameMinpaths N M ↔ ((c : ℕ) → Mincut N c ↔ Mincut M c)
+same-minpaths N M B C =
+    let same = same-blocker (minpaths-decided N B) (minpaths-decided M C) (minpath-least N) (minpath-least M) in (
+      λ s c. Iff·trans (mincut-blocker N c) (Iff·trans (same .1 s c) (Iff·symm (mincut-blocker M c))),
+      λ s. same .0 (λ c. Iff·trans (Iff·symm (mincut-blocker N c)) (Iff·trans (s c) (mincut-blocker M c))),
+    )
+
+-- ---- the tests
+
+module _ (N : Network) (B : Bounded N) where
+  -- A set of present edges is a cut exactly if without it the source does not reach the sink.
+  pub cut-reach : (c : ℕ)
+      → Cut N c ↔ ((c ⊆ N .present .0) × (N .sink ∈ reachOf (without N c) (2 ^ N .source) → ⊥))
+  cut-reach c =
+      let B′ = bounded-only N B (N .present .0 ∖ c) (minus-⊆ (N .present .0) c) in
+      Iff·trans (cut-connected N c) (Iff·and Iff·rfl (Iff·not (Iff·symm (in-reach-single (without N c) B′ (N .source) (N .sink)))))
+
+  -- Of a set of present edges, the test of what it severs tells whether it is a cut.
+  severed-iff : (c : ℕ) → c ⊆ N .present .0 → T (severed N c) ↔ Cut N c
+  unfolding severed
+  severed-iff c l =
+      let reached = T-not (has (reachOf (without N c) (2 ^ N .source)) (N .sink)) in
+      (λ t. cut-reach c .1 (l, reached .0 t), λ k. reached .1 (cut-reach c .0 k .1))
+
+  -- The test of a cut is right.
+  pub cutTest-iff : (c : ℕ) → T (cutTest N c) ↔ Cut N c
+  unfolding cutTest
+  cutTest-iff c =
+      let within = Iff·trans (T-eqb (bitAnd c (N .present .0)) c) (Iff·symm (subset-and c (N .present .0))) in
+      let both = T-then (eqb (bitAnd c (N .present .0)) c) (severed N c) in (
+        λ t. severed-iff c (within .0 (both .0 t .0)) .0 (both .0 t .1),
+        λ k. both .1 (within .1 (k .present), severed-iff c (k .present) .1 k),
+      )
+
+  -- The test of a mincut is right.
+  pub mincutTest-iff : (c : ℕ) → T (mincutTest N c) ↔ Mincut N c
+  unfolding mincutTest
+  mincutTest-iff c =
+      let kept : ℕ → Bool = λ e. not (severed N (c ∖ 2 ^ e)) in
+      let both = T-then (cutTest N c) (every kept (members 64 c)) in
+      let all = T-every kept (members 64 c) in
+      let dropped : c ⊆ N .present .0 → (e : ℕ) → T (severed N (c ∖ 2 ^ e)) ↔ Cut N (c ∖ 2 ^ e) =
+      λ l e. severed-iff (c ∖ 2 ^ e) (⊆-trans (c ∖ 2 ^ e) c (N .present .0) (minus-⊆ c (2 ^ e)) l) in (
+        λ t.
+            let k = cutTest-iff c .0 (both .0 t .0) in
+            mincut-drop N c k .1 (λ e m d.
+            let listed = in-members 64 c e .1 (m, member-lt 64 (N .present .0) e (B .edges) (k .present e m)) in
+            T-not (severed N (c ∖ 2 ^ e)) .0 (all .0 (both .0 t .1) e listed) (dropped (k .present) e .1 d)),
+        λ m.
+            let drop = mincut-drop N c (m .cut) .0 m in
+            both .1 (
+              cutTest-iff c .1 (m .cut),
+              all .1 (λ e i. T-not (severed N (c ∖ 2 ^ e)) .1 (λ t.
+                  drop e (in-members 64 c e .0 i .0) (dropped (m .cut .present) e .0 t))),
+            ),
+      )

@@ -1,0 +1,99 @@
+-- Sets of edges: those chosen by a test, as the edges at a node and those within a set of nodes, and what is reached over a set.
+-- Assumes that the edges have numbers below 64 and ends below the node count.
+use mathlib.Core.Path.{refl}
+use mathlib.Core.Bool.{Bool, _&&_, _||_}
+use mathlib.Core.List.{List}
+use mathlib.Core.Logic.{inl, inr, _↔_}
+use Prim.Native.Nat.{ℕ, zero, suc, _^_, _<_}
+use native.Mathlib.Nat.{not-suc-le-zero, le-of-suc-le-suc, eq-or-lt-of-le}
+use native.Mathlib.Omega.{arith}
+use lib.Dec.{T, eqb}
+use Rattle.bitset.specs.Members.{has, _⊆_}
+use Rattle.bitset.proofs.Members.{has-zero}
+use Rattle.network.specs.declared.Network.{Network}
+use Rattle.network.specs.Record.{hasEdge, firstEnd, secondEnd}
+use Rattle.graph.specs.Paths.{Joins, Step, Leads, edgesOf}
+use Rattle.graph.specs.Cuts.{only}
+use Rattle.graph.specs.Reach.{reachOf}
+use Rattle.graph.specs.Relevant.{chosen, edgesAt, edgesWithin}
+use Rattle.graph.proofs.Tests.{T-and, T-or, T-eqb}
+use Rattle.graph.proofs.Sets.{_∈_, member-lt}
+use Rattle.graph.proofs.Walks.{leads-within}
+use Rattle.graph.proofs.Reach.{in-addIf, Bounded, bounded-only, in-reach-single}
+
+-- The chosen numbers are those below n that pass the test.
+pub in-chosen : (f : ℕ → Bool) (n k : ℕ) → (k ∈ chosen f n) ↔ ((k < n) × T (f k))
+unfolding chosen
+in-chosen f zero k = (λ m. absurd (rw (has-zero k) at m), λ c. absurd (not-suc-le-zero (c .0)))
+in-chosen f (suc n) k = (
+  λ m. elim (in-addIf (f n) (chosen f n) n k .0 m) [
+    | inl i ↦ let c = in-chosen f n k .0 i in (omega arith, c .1)
+    | inr i ↦ (omega arith, rw (i .1) (i .0))
+  ],
+  λ c. in-addIf (f n) (chosen f n) n k .1 (elim (eq-or-lt-of-le (le-of-suc-le-suc (c .0))) [
+    | inl e ↦ inr (rw e at (c .1), e)
+    | inr l ↦ inl (in-chosen f n k .1 (l, c .1))
+  ]),
+)
+
+-- A present edge joins its stored ends.
+pub joins-stored : (N : Network) (e : ℕ) → e ∈ N .present .0 → Joins N e (firstEnd N e) (secondEnd N e)
+unfolding Joins
+joins-stored N e m = (m, inl (refl, refl))
+
+module _ (N : Network) (B : Bounded N) where
+  -- A present edge has a number below 64.
+  pub edge-lt : (e : ℕ) → e ∈ N .present .0 → e < 64
+  edge-lt e m = member-lt 64 (N .present .0) e (B .edges) m
+
+  -- The edges at c are those that join c to some node.
+  pub in-edgesAt : (c e : ℕ) → (e ∈ edgesAt N c) ↔ ((x : ℕ) × Joins N e c x)
+  unfolding edgesAt Joins
+  in-edgesAt c e =
+      let a : ℕ = firstEnd N e in
+      let b : ℕ = secondEnd N e in
+      let test = in-chosen (λ k. hasEdge N k && (eqb (firstEnd N k) c || eqb (secondEnd N k) c)) 64 e in (
+        λ m.
+            let t = T-and (hasEdge N e) (eqb a c || eqb b c) .0 (test .0 m .1) in
+            elim (T-or (eqb a c) (eqb b c) .0 (t .1)) [
+              | inl q ↦ (b, (t .0, inl (T-eqb a c .0 q, refl)))
+              | inr q ↦ (a, (t .0, inr (refl, T-eqb b c .0 q)))
+            ],
+        λ j.
+            test .1 (
+              edge-lt e (j .1 .0),
+              T-and (hasEdge N e) (eqb a c || eqb b c) .1 (
+                j .1 .0,
+                T-or (eqb a c) (eqb b c) .1
+                    (elim (j .1 .1) [ inl q ↦ inl (T-eqb a c .1 (q .0)) | inr q ↦ inr (T-eqb b c .1 (q .1)) ]),
+              ),
+            ),
+      )
+
+  -- The edges within u are the present edges that join nodes of u.
+  pub in-edgesWithin : (u e : ℕ) → (e ∈ edgesWithin N u) ↔ ((e ∈ N .present .0) × ((x y : ℕ) → Joins N e x y → x ∈ u))
+  unfolding edgesWithin Joins
+  in-edgesWithin u e =
+      let a : ℕ = firstEnd N e in
+      let b : ℕ = secondEnd N e in
+      let test = in-chosen (λ k. hasEdge N k && (has u (firstEnd N k) && has u (secondEnd N k))) 64 e in (
+        λ m.
+            let t = T-and (hasEdge N e) (has u a && has u b) .0 (test .0 m .1) in
+            let ends = T-and (has u a) (has u b) .0 (t .1) in
+            (t .0, λ x y j. elim (j .1) [ inl q ↦ rw (← q .0) (ends .0) | inr q ↦ rw (← q .1) (ends .1) ]),
+        λ w.
+            test .1 (
+              edge-lt e (w .0),
+              T-and (hasEdge N e) (has u a && has u b) .1
+                  (w .0, T-and (has u a) (has u b) .1 (w .1 a b (w .0, inl (refl, refl)), w .1 b a (w .0, inr (refl, refl)))),
+            ),
+      )
+
+  -- What h reaches over the edges of g are the nodes to which a walk from h takes edges of g alone.
+  pub in-reach-over : (g : ℕ) → g ⊆ N .present .0 → (h v : ℕ)
+      → (v ∈ reachOf (only N g) (2 ^ h)) ↔ ((p : List Step) × (Leads N h p v × (edgesOf p ⊆ g)))
+  in-reach-over g l h v =
+      let reach = in-reach-single (only N g) (bounded-only N B g l) h v in (
+        λ m. let w = reach .0 m in (w .0, leads-within N g l (w .0) h v .0 (w .1)),
+        λ w. reach .1 (w .0, leads-within N g l (w .0) h v .1 (w .1)),
+      )

@@ -1,0 +1,18 @@
+-- The theory of graphs, a notion to a file, in reading order.
+pub mod Tests
+pub mod Sets
+pub mod Walks
+pub mod Nodes
+pub mod Minpaths
+pub mod Reach
+pub mod Families
+pub mod Cuts
+pub mod Sound
+pub mod EdgeSets
+pub mod Detours
+pub mod RelevantNodes
+pub mod RelevantEdges
+pub mod Relevant
+pub mod Inside
+pub mod SourceSides
+pub mod Correspondence

@@ -1,0 +1,180 @@
+-- The relevant part as it is computed is the relevant part.
+-- Assumes a sound network.
+use mathlib.Core.Path.{_≡_, refl, sym}
+use mathlib.Core.List.{List, List·Memᴰ, Memᴰ·cast}
+use mathlib.Core.Logic.{_⊎_, inl, inr, ⊎-map, ⊎-elim, _↔_, _≢_, Ne·symm}
+use Prim.Native.Nat.{ℕ, zero, suc, _^_, _≤_, _<_}
+use native.Mathlib.Nat.{not-suc-le-zero, le-of-suc-le-suc, eq-or-lt-of-le}
+use native.Mathlib.Decide.{ℕ-discrete, decLt}
+use native.Mathlib.Omega.{arith}
+use lib.Dec.{ltb→lt, lt→ltb}
+use Rattle.bitset.specs.Members.{insert, _∖_}
+use Rattle.bitset.proofs.Members.{has-ones}
+use Rattle.network.specs.declared.Network.{Network}
+use Rattle.network.specs.Record.{firstEnd, secondEnd}
+use Rattle.graph.specs.Paths.{Step, Leads, nodesFrom}
+use Rattle.graph.specs.Cuts.{without, RelevantEdge, RelevantNode}
+use Rattle.graph.specs.Reach.{reachOf}
+use Rattle.graph.specs.Relevant.{edgesAt, past, pastAll, relevantNodes, relevantEdges}
+use Rattle.graph.proofs.Sets.{_∈_, in-insert, in-and, in-minus, in-single, in-drop, minus-⊆}
+use Rattle.graph.proofs.Walks.{joins-sym, end-met, ends-met, back, leads-back, nodes-back, edges-present, leads-within}
+use Rattle.graph.proofs.Nodes.{carried}
+use Rattle.graph.proofs.Reach.{Bounded, in-reach, bounded-only}
+use Rattle.graph.proofs.EdgeSets.{joins-stored, in-edgesAt, in-edgesWithin}
+use Rattle.graph.proofs.Sound.{Sound}
+use Rattle.graph.proofs.RelevantNodes.{Escapes, stays, end-relevant, relevant-node-iff}
+use Rattle.graph.proofs.RelevantEdges.{relevant-present, relevant-edge-iff}
+
+module _ (N : Network) (B : Bounded N) where
+  -- ---- past a node
+
+  -- The walks without the edges at c from another node are the walks that avoid c.
+  without-node : (c : ℕ) (p : List Step) (u v : ℕ) → c ≢ u
+      → Leads (without N (edgesAt N c)) u p v ↔ (Leads N u p v × (List·Memᴰ c (nodesFrom u p) → ⊥))
+  without-node c p u v ne =
+      let h : ℕ = N .present .0 ∖ edgesAt N c in
+      let within = leads-within N h (minus-⊆ (N .present .0) (edgesAt N c)) p u v in (
+        λ w.
+            let k = within .0 w in (
+              k .0,
+              λ m. carried N (λ x. c ≢ x) p u v (k .0)
+                  (λ e i x y j a q. in-minus (N .present .0) (edgesAt N c) e .0 (k .1 e i) .1
+                  (in-edgesAt N B c e .1 (x, rw (← q) at (joins-sym N e x y j)))) ne c m refl,
+            ),
+        λ k.
+            within .1 (
+              k .0,
+              λ e i. in-minus (N .present .0) (edgesAt N c) e .1
+                  (edges-present N p u v (k .0) e i, λ m. let j = in-edgesAt N B c e .0 m in k .1 (ends-met N p u v e c (j .0) (k .0) i (j .1))),
+            ),
+      )
+
+  -- Source and sink, whichever is not c.
+  in-terminals : (c u : ℕ)
+      → (u ∈ (insert (2 ^ N .source) (N .sink) ∖ 2 ^ c)) ↔ (((u ≡ N .source) ⊎ (u ≡ N .sink)) × (u ≡ c → ⊥))
+  unfolding ⊎-map
+  in-terminals c u = (
+    λ m.
+        let d = in-drop (insert (2 ^ N .source) (N .sink)) c u .0 m in
+        (⊎-map (in-single (N .source) u .0) (λ e. e) (in-insert (2 ^ N .source) (N .sink) u .0 (d .0)), d .1),
+    λ k.
+        in-drop (insert (2 ^ N .source) (N .sink)) c u .1
+        (in-insert (2 ^ N .source) (N .sink) u .1 (⊎-map (in-single (N .source) u .1) (λ e. e) (k .0)), k .1),
+  )
+
+  -- What is computed for c are the nodes that escape past c, and c.
+  in-past : (c v : ℕ) → (v ∈ past N c) ↔ ((v ≡ c) ⊎ Escapes N c v)
+  unfolding past
+  in-past c v =
+      let M : Network = without N (edgesAt N c) in
+      let start : ℕ = insert (2 ^ N .source) (N .sink) ∖ 2 ^ c in
+      let reach = in-reach M (bounded-only N B (N .present .0 ∖ edgesAt N c) (minus-⊆ (N .present .0) (edgesAt N c))) start v in (
+        λ m. elim (in-insert (reachOf M start) c v .0 m) [
+          | inl i ↦
+              let w = reach .0 i in
+              let t = in-terminals c (w .0) .0 (w .1 .0) in
+              let k = without-node c (w .1 .1 .0) (w .0) v (Ne·symm (t .1)) .0 (w .1 .1 .1) in
+              inr (record {
+                steps = back (w .0) (w .1 .1 .0);
+                end = w .0;
+                terminal = t .0;
+                leads = leads-back N (w .1 .1 .0) (w .0) v (k .0);
+                avoids = λ j. k .1 (nodes-back N (w .1 .1 .0) (w .0) v c (k .0) .0 j);
+              })
+          | inr e ↦ inl e
+        ],
+        λ k. in-insert (reachOf M start) c v .1 (elim k [
+          | inl e ↦ inr e
+          | inr q ↦
+              let other : q .end ≡ c → ⊥ = λ e. q .avoids (Memᴰ·cast (sym e) (end-met N (q .steps) v (q .end) (q .leads))) in
+              inl (reach .1 (
+                q .end,
+                (
+                  in-terminals c (q .end) .1 (q .terminal, other),
+                  (
+                    back v (q .steps),
+                    without-node c (back v (q .steps)) (q .end) v (Ne·symm other) .1
+                        (leads-back N (q .steps) v (q .end) (q .leads), λ j. q .avoids (nodes-back N (q .steps) v (q .end) c (q .leads) .0 j)),
+                  ),
+                ),
+              ))
+        ]),
+      )
+
+  -- The nodes past every number below n.
+  in-pastAll : (n v : ℕ) → (v ∈ pastAll N n) ↔ ((v < N .nodes) × ((c : ℕ) → c < n → (v ≡ c) ⊎ Escapes N c v))
+  unfolding pastAll
+  in-pastAll zero v =
+      rw (has-ones (N .nodes) v)
+      (λ t. (ltb→lt v (N .nodes) t, λ c h. absurd (not-suc-le-zero h)), λ k. lt→ltb v (N .nodes) (k .0))
+  in-pastAll (suc n) v = (
+    λ m.
+        let both = in-and (pastAll N n) (past N n) v .0 m in
+        let k = in-pastAll n v .0 (both .0) in
+        (k .0, λ c h. elim (eq-or-lt-of-le (le-of-suc-le-suc h)) [ inl e ↦ rw e (in-past n v .0 (both .1)) | inr l ↦ k .1 c l ]),
+    λ k.
+        in-and (pastAll N n) (past N n) v .1
+        (in-pastAll n v .1 (k .0, λ c h. k .1 c (omega arith)), in-past n v .1 (k .1 n (omega arith))),
+  )
+
+  -- ---- the relevant nodes
+
+  -- A walk from a node below the node count meets no other number.
+  nodes-lt : (p : List Step) (u v : ℕ) → Leads N u p v → u < N .nodes → (x : ℕ) → List·Memᴰ x (nodesFrom u p) → x < N .nodes
+  nodes-lt p u v h l = carried N (λ x. x < N .nodes) p u v h (λ e i x y j k. B .ends e x y j) l
+
+module _ (N : Network) (S : Sound N) where
+  -- A relevant node is below the node count.
+  pub relevant-lt : (v : ℕ) → RelevantNode N v → v < N .nodes
+  relevant-lt v (inl e) = rw e (S .source-lt)
+  relevant-lt v (inr (inl e)) = rw e (S .sink-lt)
+  relevant-lt v (inr (inr (r, (m, i)))) = nodes-lt N (S .bounded) (m .steps) (N .source) (N .sink) (m .leads) (S .source-lt) v i
+
+  -- What escapes past every other node escapes past any other number.
+  escapes-all : (v : ℕ) → v < N .nodes → ((c : ℕ) → c < N .nodes → (v ≡ c) ⊎ Escapes N c v)
+      → (c : ℕ) → c ≢ v → Escapes N c v
+  escapes-all v l k c ne = go (decLt c (N .nodes))
+    where
+      beyond : (N .nodes ≤ c) → (v ≡ N .source) ⊎ Escapes N (N .source) v → Escapes N c v
+      beyond h (inl e) = stays N c v (inl e) ne
+      beyond h (inr q) = record {
+        steps = q .steps;
+        end = q .end;
+        terminal = q .terminal;
+        leads = q .leads;
+        avoids = λ m. let lt = nodes-lt N (S .bounded) (q .steps) v (q .end) (q .leads) l c m in omega arith;
+      }
+
+      go : Dec (c < N .nodes) → Escapes N c v
+      go (yes h) = ⊎-elim (λ e. absurd (ne (sym e))) (λ q. q) (k c h)
+      go (no h) = beyond (omega arith) (k (N .source) (S .source-lt))
+
+  -- The relevant nodes are those that are computed.
+  pub in-relevantNodes : (v : ℕ) → (v ∈ relevantNodes N) ↔ RelevantNode N v
+  unfolding relevantNodes
+  in-relevantNodes v = (
+    λ m. let k = in-pastAll N (S .bounded) (N .nodes) v .0 m in relevant-node-iff N v .1 (escapes-all v (k .0) (k .1)),
+    λ r. in-pastAll N (S .bounded) (N .nodes) v .1 (relevant-lt v r, λ c h. go c (ℕ-discrete v c) (relevant-node-iff N v .0 r c)),
+  )
+    where
+      go : (c : ℕ) → Dec (v ≡ c) → (c ≢ v → Escapes N c v) → (v ≡ c) ⊎ Escapes N c v
+      go c (yes e) k = inl e
+      go c (no n) k = inr (k (Ne·symm n))
+
+  -- ---- the relevant edges
+
+  -- The relevant edges are those that are computed.
+  pub in-relevantEdges : (e : ℕ) → (e ∈ relevantEdges N) ↔ RelevantEdge N e
+  unfolding relevantEdges
+  in-relevantEdges e =
+      let a : ℕ = firstEnd N e in
+      let b : ℕ = secondEnd N e in
+      let within = in-edgesWithin N (S .bounded) (relevantNodes N) e in (
+        λ m.
+            let w = within .0 m in
+            let j = joins-stored N e (w .0) in
+            relevant-edge-iff N e a b j .1
+            (λ q. S .loopless e b (rw q at j), (in-relevantNodes a .0 (w .1 a b j), in-relevantNodes b .0 (w .1 b a (joins-sym N e a b j)))),
+        λ r.
+            within .1 (relevant-present N e r, λ x y j. in-relevantNodes x .1 (end-relevant N e x y r j)),
+      )

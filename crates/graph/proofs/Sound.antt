@@ -1,0 +1,50 @@
+-- Sound networks: what the record test says of the nodes and edges of an accepted record.
+-- Assumes nothing.
+use mathlib.Core.Path.{_≡_, sym, _∙_}
+use mathlib.Core.Logic.{inl, inr, _≢_}
+use Prim.Native.Nat.{ℕ, _≤_, _<_}
+use native.Mathlib.Omega.{arith}
+use denote.Floats.{is-true}
+use Rattle.network.specs.declared.Network.{Network}
+use Rattle.network.specs.Record.{hasEdge, firstEnd, secondEnd, slotFault, faultOf, Stored}
+use Rattle.network.proofs.Refusals.{size-none, pair-none}
+use Rattle.network.proofs.Slots.{accepted}
+use Rattle.graph.specs.Paths.{Joins}
+use Rattle.graph.proofs.Sets.{_∈_, member-lt}
+use Rattle.graph.proofs.Reach.{Bounded}
+
+-- Edges below 64 with ends below the node count, no loop, at most 32 nodes, and two terminals among them.
+pub record Sound (N : Network) : Type 0 where
+  pub bounded : Bounded N
+  pub small : N .nodes ≤ 32
+  pub source-lt : N .source < N .nodes
+  pub sink-lt : N .sink < N .nodes
+  pub differ : N .source ≢ N .sink
+  pub loopless : (e u : ℕ) → Joins N e u u → ⊥
+
+-- The slot of a present edge keeps the rule of its two ends.
+slot-kept : (N : Network) (e : ℕ) → e ∈ N .present .0 → slotFault N e ≡ 0
+    → (firstEnd N e < N .nodes) × (secondEnd N e < N .nodes) × (firstEnd N e ≢ secondEnd N e)
+unfolding slotFault
+slot-kept N e m none =
+    pair-none 9 10 (N .nodes) (firstEnd N e) (secondEnd N e) (omega arith) (omega arith) (rw (is-true (hasEdge N e) m, slotFault) at none)
+
+-- An accepted record is a sound network.
+pub accepted-sound : (N : Network) → Stored N → faultOf N ≡ 0 → Sound N
+unfolding Joins
+accepted-sound N S ok =
+    let rules = accepted N ok in
+    let terminals = pair-none 5 6 (N .nodes) (N .source) (N .sink) (omega arith) (omega arith) (rules .terminals) in
+    let slot : (e : ℕ) → e ∈ N .present .0 → (firstEnd N e < N .nodes) × (secondEnd N e < N .nodes) × (firstEnd N e ≢ secondEnd N e) =
+    λ e m. slot-kept N e m (rules .slot-none e (member-lt 64 (N .present .0) e (S .edges) m)) in
+    record {
+      bounded = record {
+        edges = S .edges;
+        ends = λ e u v j. elim (j .1) [ inl q ↦ rw (← q .1) (slot e (j .0) .1) | inr q ↦ rw (← q .0) (slot e (j .0) .0) ];
+      };
+      small = size-none (N .nodes) (rules .size) .1;
+      source-lt = terminals .0;
+      sink-lt = terminals .1;
+      differ = terminals .2;
+      loopless = λ e u j. slot e (j .0) .2 (elim (j .1) [ inl q ↦ q .0 ∙ sym (q .1) | inr q ↦ q .0 ∙ sym (q .1) ]);
+    }

@@ -1,0 +1,33 @@
+-- Cuts, as they are computed: one reachable set for a cut, and one more for each member of a mincut.
+--
+--   severed N c          without the edges of c the source does not reach the sink
+--   every f l            the test f holds of every number of l
+--   cutTest N c          whether c is a cut
+--   mincutTest N c       whether c is a mincut
+use mathlib.Core.Bool.{Bool, true, false, not}
+use mathlib.Core.List.{List, [], _∷_}
+use Prim.Native.Nat.{ℕ, _^_}
+use lib.Bits.{bitAnd}
+use lib.Dec.{eqb}
+use Rattle.bitset.specs.Members.{has, _∖_}
+use Rattle.network.specs.declared.Network.{Network}
+use Rattle.graph.specs.Cuts.{without}
+use Rattle.graph.specs.MemberList.{members}
+use Rattle.graph.specs.Reach.{reachOf}
+
+unfoldable pub severed : Network → ℕ → Bool
+severed N c = not (has (reachOf (without N c) (2 ^ N .source)) (N .sink))
+
+unfoldable pub every : (ℕ → Bool) → List ℕ → Bool
+every f [] = true
+every f (k ∷ l) = elim (f k) [ true ↦ every f l | false ↦ false ]
+
+unfoldable pub cutTest : Network → ℕ → Bool
+cutTest N c = elim (eqb (bitAnd c (N .present .0)) c) [ true ↦ severed N c | false ↦ false ]
+
+unfoldable pub mincutTest : Network → ℕ → Bool
+mincutTest N c =
+    elim (cutTest N c) [
+      | true ↦ every (λ e. not (severed N (c ∖ 2 ^ e))) (members 64 c)
+      | false ↦ false
+    ]

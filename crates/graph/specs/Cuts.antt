@@ -1,0 +1,55 @@
+-- Cuts, the relevant part and source sides of a network.
+--
+--   only N h             N with the edges of h alone present
+--   without N c          N without the edges of c
+--   Cut N c              c is a set of present edges without which no minpath is left
+--   Mincut N c           a cut, and no proper subset of it is one (the paper's minimal cut)
+--   RelevantEdge N e     e lies on some minpath (the paper's useful cable)
+--   OnMinpath N v        v is a node of some minpath's path
+--   RelevantNode N v     v is the source, the sink, or a node of some minpath's path (the paper's useful point)
+--   OnSourceSide N c v   v is relevant, and source reaches it over relevant edges outside c (the paper's near side)
+use mathlib.Core.List.{List, List·Memᴰ}
+use mathlib.Core.Logic.{_⊎_}
+use mathlib.Core.Path.{_≡_}
+use Prim.Native.Nat.{ℕ}
+use lib.Dec.{T}
+use Rattle.bitset.specs.Members.{has, _⊆_, _∖_}
+use Rattle.network.specs.declared.Network.{Network}
+use Rattle.graph.specs.Paths.{Step, Leads, nodesFrom, edgesOf, Minpath}
+
+unfoldable pub only : Network → ℕ → Network
+only N h = record {
+  nodes = N .nodes;
+  source = N .source;
+  sink = N .sink;
+  present = record { 0 = h };
+  first = N .first;
+  second = N .second;
+}
+
+abbrev pub without : Network → ℕ → Network
+without N c = only N (N .present .0 ∖ c)
+
+pub record Cut (N : Network) (c : ℕ) : Type 0 where
+  pub present : c ⊆ N .present .0
+  pub severs : (r : ℕ) → Minpath (without N c) r → ⊥
+
+pub record Mincut (N : Network) (c : ℕ) : Type 0 where
+  pub cut : Cut N c
+  pub least : (d : ℕ) → d ⊆ c → Cut N d → d ≡ c
+
+abbrev pub RelevantEdge : Network → ℕ → Type 0
+RelevantEdge N e = (r : ℕ) × (Minpath N r × T (has r e))
+
+abbrev pub OnMinpath : Network → ℕ → Type 0
+OnMinpath N v = (r : ℕ) × ((m : Minpath N r) × List·Memᴰ v (nodesFrom (N .source) (m .steps)))
+
+abbrev pub RelevantNode : Network → ℕ → Type 0
+RelevantNode N v = (v ≡ N .source) ⊎ ((v ≡ N .sink) ⊎ OnMinpath N v)
+
+-- The walk takes relevant edges outside c alone.
+pub record OnSourceSide (N : Network) (c v : ℕ) : Type 0 where
+  pub relevant : RelevantNode N v
+  pub steps : List Step
+  pub leads : Leads N (N .source) steps v
+  pub kept : (e : ℕ) → T (has (edgesOf steps) e) → RelevantEdge N e × (T (has c e) → ⊥)

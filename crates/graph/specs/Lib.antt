@@ -1,0 +1,8 @@
+-- The definitions of graph theory that the contracts of `graph` cite.
+pub mod Paths
+pub mod Cuts
+pub mod SourceSides
+pub mod MemberList
+pub mod Reach
+pub mod CutTests
+pub mod Relevant

@@ -1,0 +1,44 @@
+-- The reachable set (the paper's reach), as it is computed.
+--
+--   addIf b t v          t with the member v where b holds, else t
+--   across N s k t       t with each end of the edge k whose other end is in s
+--   edgeList N           the present edges, rising
+--   roundOver N l s      s with every node that an edge of the list l joins to a node of s
+--   rounds N l n s       at most n such rounds from s on, fewer if one adds nothing
+--   round N s            s with every node that a present edge joins to a node of s
+--   reachOf N s          the nodes that are connected to some node of s: every round but the last adds a node
+--   Closed N s           no present edge leads out of s
+use mathlib.Core.Bool.{Bool, true, false}
+use mathlib.Core.List.{List, foldr}
+use Prim.Native.Nat.{ℕ, zero, suc}
+use lib.Dec.{T, eqb}
+use Rattle.bitset.specs.Members.{has, insert}
+use Rattle.network.specs.declared.Network.{Network}
+use Rattle.network.specs.Record.{firstEnd, secondEnd}
+use Rattle.graph.specs.Paths.{Joins}
+use Rattle.graph.specs.MemberList.{members}
+
+unfoldable pub addIf : Bool → ℕ → ℕ → ℕ
+addIf b t v = elim b [ true ↦ insert t v | false ↦ t ]
+
+unfoldable pub across : Network → ℕ → ℕ → ℕ → ℕ
+across N s k t = addIf (has s (firstEnd N k)) (addIf (has s (secondEnd N k)) t (firstEnd N k)) (secondEnd N k)
+
+abbrev pub edgeList : Network → List ℕ
+edgeList N = members 64 (N .present .0)
+
+unfoldable pub roundOver : Network → List ℕ → ℕ → ℕ
+roundOver N l s = foldr (across N s) s l
+
+unfoldable pub rounds : Network → List ℕ → ℕ → ℕ → ℕ
+rounds N l zero s = s
+rounds N l (suc n) s = let t = roundOver N l s in elim (eqb t s) [ true ↦ s | false ↦ rounds N l n t ]
+
+abbrev pub round : Network → ℕ → ℕ
+round N s = roundOver N (edgeList N) s
+
+unfoldable pub reachOf : Network → ℕ → ℕ
+reachOf N s = rounds N (edgeList N) (N .nodes) s
+
+abbrev pub Closed : Network → ℕ → Type 0
+Closed N s = (e u v : ℕ) → Joins N e u v → T (has s u) → T (has s v)

@@ -1,0 +1,53 @@
+-- The relevant part (the paper's useful part), source sides and their boundaries, as they are computed.
+--
+--   chosen f n           the set of the numbers below n that pass the test f
+--   edgesAt N c          the present edges with an end at c
+--   edgesWithin N u      the present edges with both ends in u
+--   reachIn N u h       what h reaches by walks that stay inside u
+--   past N c             c, and what source and sink, whichever is not c, reach without the edges at c
+--   pastAll N n          the nodes of N that are in past N c for each c below n
+--   relevantNodes N      the relevant nodes
+--   relevantEdges N      the relevant edges: those within the relevant nodes
+--   sourceSideOf N c     the source side of c
+--   boundaryOf N s       the relevant edges with exactly one end in s
+use mathlib.Core.Bool.{Bool, xor, _&&_, _||_}
+use Prim.Native.Nat.{ℕ, zero, suc, _-_, _^_}
+use lib.Bits.{bitAnd}
+use lib.Dec.{eqb}
+use Rattle.bitset.specs.Members.{has, insert, _∖_}
+use Rattle.network.specs.declared.Network.{Network}
+use Rattle.network.specs.Record.{hasEdge, firstEnd, secondEnd}
+use Rattle.graph.specs.Cuts.{only, without}
+use Rattle.graph.specs.Reach.{addIf, reachOf}
+
+unfoldable pub chosen : (ℕ → Bool) → ℕ → ℕ
+chosen f zero = 0
+chosen f (suc n) = addIf (f n) (chosen f n) n
+
+unfoldable pub edgesAt : Network → ℕ → ℕ
+edgesAt N c = chosen (λ k. hasEdge N k && (eqb (firstEnd N k) c || eqb (secondEnd N k) c)) 64
+
+unfoldable pub edgesWithin : Network → ℕ → ℕ
+edgesWithin N u = chosen (λ k. hasEdge N k && (has u (firstEnd N k) && has u (secondEnd N k))) 64
+
+unfoldable pub reachIn : Network → ℕ → ℕ → ℕ
+reachIn N u h = reachOf (only N (edgesWithin N u)) (2 ^ h)
+
+unfoldable pub past : Network → ℕ → ℕ
+past N c = insert (reachOf (without N (edgesAt N c)) (insert (2 ^ N .source) (N .sink) ∖ 2 ^ c)) c
+
+unfoldable pub pastAll : Network → ℕ → ℕ
+pastAll N zero = 2 ^ N .nodes - 1
+pastAll N (suc c) = bitAnd (pastAll N c) (past N c)
+
+unfoldable pub relevantNodes : Network → ℕ
+relevantNodes N = pastAll N (N .nodes)
+
+unfoldable pub relevantEdges : Network → ℕ
+relevantEdges N = edgesWithin N (relevantNodes N)
+
+unfoldable pub sourceSideOf : Network → ℕ → ℕ
+sourceSideOf N c = reachOf (only N (relevantEdges N ∖ c)) (2 ^ N .source)
+
+unfoldable pub boundaryOf : Network → ℕ → ℕ
+boundaryOf N s = let r = relevantEdges N in chosen (λ k. has r k && xor (has s (firstEnd N k)) (has s (secondEnd N k))) 64
