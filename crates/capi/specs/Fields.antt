@@ -1,7 +1,13 @@
--- A network from its fields, as they cross the border to other languages.
+-- What crosses the border to other languages, field by field.
+--
+--   assembled ..         a network from its fields
+--   Read s r N           reading the bytes s gives the refusal r and the network N
+--   Written N lent r n after     writing N into a buffer that held `lent` gives the refusal r and the count n, and leaves `after` in it
 use mathlib.Core.List.{List}
+use mathlib.Core.Path.{_≡_}
 use Prim.Native.Nat.{ℕ}
 use Rattle.network.specs.declared.Network.{Network}
+use Rattle.network.specs.Format.{decodeOf, encodedBy, bytesAfter}
 
 abbrev pub assembled : ℕ → ℕ → ℕ → ℕ → List ℕ → List ℕ → Network
 assembled nodes source sink present first second = record {
@@ -12,3 +18,12 @@ assembled nodes source sink present first second = record {
   first = first;
   second = second;
 }
+
+pub record Read (s : List ℕ) (r : ℕ) (N : Network) : Type 0 where
+  pub refusal : r ≡ decodeOf s .refusal
+  pub network : N ≡ decodeOf s .network
+
+pub record Written (N : Network) (lent : List ℕ) (r n : ℕ) (after : List ℕ) : Type 0 where
+  pub refusal : r ≡ encodedBy N lent .refusal
+  pub count : n ≡ encodedBy N lent .count
+  pub bytes : after ≡ bytesAfter N lent

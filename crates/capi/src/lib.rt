@@ -6,8 +6,7 @@ use bitset::EdgeSet;
 use network::Network;
 ghost use mathlib.Core.Path.{_≡_};
 ghost use Rattle.network.specs.Record.{faultOf};
-ghost use Rattle.network.specs.Format.{decodeOf, encodedBy, bytesAfter};
-ghost use Rattle.capi.specs.Fields.{assembled};
+ghost use Rattle.capi.specs.Fields.{assembled, Read, Written};
 
 // Reads a plan. Gives the refusal's number, 0 if there is none, and fills in the record, all zero on refusal.
 #[no_mangle]
@@ -20,9 +19,8 @@ pub extern "C" fn cutlist_decode(
     first: &mut [u8; 64],
     second: &mut [u8; 64],
 ) -> u8
-    ensures { λ r. ⌜ (r ≡ decodeOf (now (plan .entry)) .refusal)
-        × (assembled (now (nodes .exit)) (now (source .exit)) (now (sink .exit)) (now (present .exit)) (now (first .exit)) (now (second .exit))
-        ≡ decodeOf (now (plan .entry)) .network) ⌝ }
+    ensures { λ r. ⌜ Read (now (plan .entry)) r
+        (assembled (now (nodes .exit)) (now (source .exit)) (now (sink .exit)) (now (present .exit)) (now (first .exit)) (now (second .exit))) ⌝ }
 {
     let decoded = network::decode(plan);
     let read = decoded.network;
@@ -38,6 +36,29 @@ pub extern "C" fn cutlist_decode(
     decoded.refusal
 }
 
+// The record of the fields that a caller lends.
+fn assemble(
+    nodes: u8,
+    source: u8,
+    sink: u8,
+    present: u64,
+    first: &[u8; 64],
+    second: &[u8; 64],
+) -> Network
+    ensures { λ r. ⌜ r ≡ assembled nodes source sink present (now (first .entry)) (now (second .entry)) ⌝ }
+{
+    let firsts = *first;
+    let seconds = *second;
+    Network {
+        nodes,
+        source,
+        sink,
+        present: EdgeSet(present),
+        first: firsts,
+        second: seconds,
+    }
+}
+
 // Tests a record. Gives the number of its first fault, 0 if it has none.
 #[no_mangle]
 pub extern "C" fn cutlist_fault(
@@ -50,16 +71,7 @@ pub extern "C" fn cutlist_fault(
 ) -> u8
     ensures { λ r. ⌜ r ≡ faultOf (assembled nodes source sink present (now (first .entry)) (now (second .entry))) ⌝ }
 {
-    let firsts = *first;
-    let seconds = *second;
-    network::fault(Network {
-        nodes,
-        source,
-        sink,
-        present: EdgeSet(present),
-        first: firsts,
-        second: seconds,
-    })
+    network::fault(assemble(nodes, source, sink, present, first, second))
 }
 
 // Writes a record into a lent buffer. Gives the refusal's number, 0 if there is none, and the count of bytes written, 0 on refusal.
@@ -74,23 +86,9 @@ pub extern "C" fn cutlist_encode(
     plan: &mut [u8],
     count: &mut usize,
 ) -> u8
-    ensures { λ r. ⌜ (record { refusal = r; count = now (count .exit) }
-        ≡ encodedBy (assembled nodes source sink present (now (first .entry)) (now (second .entry))) (now (plan .entry)))
-        × (now (plan .exit) ≡ bytesAfter (assembled nodes source sink present (now (first .entry)) (now (second .entry))) (now (plan .entry))) ⌝ }
+    ensures { λ r. ⌜ Written (assembled nodes source sink present (now (first .entry)) (now (second .entry))) (now (plan .entry)) r (now (count .exit)) (now (plan .exit)) ⌝ }
 {
-    let firsts = *first;
-    let seconds = *second;
-    let encoded = network::encode(
-        Network {
-            nodes,
-            source,
-            sink,
-            present: EdgeSet(present),
-            first: firsts,
-            second: seconds,
-        },
-        plan,
-    );
+    let encoded = network::encode(assemble(nodes, source, sink, present, first, second), plan);
     *count = encoded.count;
     encoded.refusal
 }
