@@ -1,15 +1,15 @@
 -- The writer as a whole: what it answers and leaves in the buffer on each way out.
 -- Assumes nothing.
 use mathlib.Core.List.{List, [], _∷_, _++_}
-use mathlib.Core.Path.{_≡_, refl, ap, ap₂, sym, _∙_}
+use mathlib.Core.Path.{_≡_, refl, ap, sym, _∙_}
 use Prim.Native.Nat.{ℕ, zero, suc, _+_, _-_, _≤_, _<_, zero-le}
 use native.Mathlib.Omega.{arith}
-use lib.ListN.{length, take, drop, set, length-drop, length-append}
+use lib.ListN.{length, take, drop, set, length-drop}
 use lib.Seq.{sets, take-length, drop-drop, drop-at, length-take-le, length-sets}
 use Rattle.network.specs.declared.Network.{Network}
 use Rattle.network.specs.declared.Encoded.{Encoded}
 use Rattle.network.specs.Format.{encodeOf, encodeRefusal, encodeAnswer, unlessRefused, encodedBy, bytesAfter, WrittenTo}
-use Rattle.network.proofs.Writing.{rest, rest-all, written-length, written-next, next-room, left-next, encode-size}
+use Rattle.network.proofs.Writing.{rest, rest-all, written-length, written-next, next-room, encode-size}
 
 -- What the writer answers and leaves.
 abbrev pub Answered : Network → List ℕ → Encoded → List ℕ → Type 0

@@ -1,7 +1,7 @@
 -- No accepted plan is longer than 262 bytes, and one has that many.
 -- Assumes nothing.
 use mathlib.Core.List.{List, [], _∷_, _++_, flatMap}
-use mathlib.Core.Path.{_≡_, refl, ap, sym}
+use mathlib.Core.Path.{_≡_, refl}
 use Prim.Native.Nat.{ℕ, _≤_}
 use lib.ListN.{length}
 use Rattle.network.specs.Record.{_when_, _then_, rising, slots, sizeFault, pairFault, bare, withEdge}

@@ -6,7 +6,7 @@ use mathlib.Core.Path.{_≡_, refl, sym, ap, _∙_}
 use Prim.Native.Nat.{ℕ, zero, suc, _+_, _-_, _≤_, _<_}
 use native.Mathlib.Nat.{add-zero}
 use native.Mathlib.Omega.{arith}
-use lib.Dec.{ltb, eqb}
+use lib.Dec.{eqb}
 use lib.ListN.{length, getD, drop, length-drop, List·getD-eq-default}
 use lib.Seq.{getD-drop}
 use borrow.Author.Tests.{lt-ltb, le-ltb, eq-eqb, ne-eqb}
@@ -14,7 +14,7 @@ use Rattle.network.specs.declared.SizeStep.{SizeStep}
 use Rattle.network.specs.declared.TerminalsStep.{TerminalsStep}
 use Rattle.network.specs.declared.EdgeStep.{EdgeStep}
 use Rattle.network.specs.Record.{_then_, sizeFault, terminalFault, endFault}
-use Rattle.network.specs.Format.{at, missing, unfit, numberFault, sizeRefusal, terminalsRefusal, edgeRefusal, endRefusal, sizeAnswer, terminalsAnswer, edgeAnswer, endAnswer, sizeStep, terminalsStep, edgeStep}
+use Rattle.network.specs.Format.{at, missing, unfit, numberFault, sizeRefusal, terminalsRefusal, edgeRefusal, endRefusal, sizeAnswer, terminalsAnswer, edgeAnswer, sizeStep, terminalsStep, edgeStep}
 use Rattle.network.proofs.Refusals.{none-then, some-then, some-when, none-when}
 use Rattle.network.proofs.Steps.{command, command-values, none-missing, none-unfit}
 

@@ -1,18 +1,18 @@
 -- The first 265 bytes decide.
 -- Assumes nothing.
-use mathlib.Core.List.{List, [], _∷_, _++_, flatMap}
+use mathlib.Core.List.{List, [], _∷_}
 use mathlib.Core.Path.{_≡_, refl, ap, ap₂, sym, _∙_}
 use Prim.Native.Nat.{ℕ, zero, suc, _+_, _-_, _*_, _≤_, _<_}
 use native.Mathlib.Nat.{le-refl}
 use native.Mathlib.Decide.{decLt}
 use native.Mathlib.Omega.{arith}
 use lib.Dec.{ltb}
-use lib.ListN.{length, getD, take, drop, length-take, length-drop}
+use lib.ListN.{length, take, drop, length-take}
 use lib.Seq.{getD-take, take-nil}
 use borrow.Author.Tests.{lt-ltb, le-ltb}
 use Rattle.network.specs.declared.Network.{Network}
 use Rattle.network.specs.Record.{withEdge, bare}
-use Rattle.network.specs.Format.{at, missing, unfit, sizeRefusal, terminalsRefusal, edgeRefusal, endRefusal, sizeStep, terminalsStep, edgeStep, edges, afterSize, afterTerminals, decodeOf}
+use Rattle.network.specs.Format.{sizeRefusal, terminalsRefusal, edgeRefusal, endRefusal, sizeStep, terminalsStep, edgeStep, edges, afterSize, afterTerminals, decodeOf}
 use Rattle.network.proofs.Steps.{SizeView, size, size-view, TerminalsView, terminals, terminals-view, EdgeView, edge, end, edge-view}
 use Rattle.network.proofs.Walk.{edges-edge, edges-end, edges-refused, edges-turns}
 

@@ -1,21 +1,21 @@
 -- What the reader accepts: the bytes are the record's own, and the record passes its test.
 -- Assumes nothing.
-use mathlib.Core.Bool.{Bool, true, false}
+use mathlib.Core.Bool.{true, false}
 use mathlib.Core.List.{List, [], _∷_, _++_, flatMap}
 use mathlib.Core.Path.{_≡_, refl, ap, ap₂, sym, subst, _∙_}
 use Prim.Native.Nat.{ℕ, zero, suc, _+_, _-_, _≤_, _<_, zero-le}
 use native.Mathlib.Nat.{le-refl}
 use native.Mathlib.Decide.{ℕ-discrete}
 use native.Mathlib.Omega.{arith}
-use lib.ListN.{length, drop, getD-replicate, length-replicate}
+use lib.ListN.{length, drop, getD-replicate}
 use Rattle.bitset.proofs.Members.{has-zero}
 use Rattle.network.specs.declared.Network.{Network}
 use Rattle.network.specs.declared.Decoded.{Decoded}
-use Rattle.network.specs.Record.{Stored, Slot, slot, rising, slots, slotFault, endFault, sizeFault, terminalFault, absentFault, faultOf, bare, withEdge, hasEdge, firstEnd, secondEnd, noNetwork}
-use Rattle.network.specs.Format.{edges, accept, refuse, edgeCommand, encodeOf, decodeOf, afterSize, afterTerminals, terminalsStep, sizeStep}
+use Rattle.network.specs.Record.{Stored, Slot, slot, rising, slotFault, endFault, sizeFault, absentFault, faultOf, bare, withEdge, hasEdge, firstEnd, secondEnd, noNetwork}
+use Rattle.network.specs.Format.{edges, accept, refuse, edgeCommand, encodeOf, decodeOf, afterSize, afterTerminals, terminalsStep}
 use Rattle.network.proofs.Steps.{EdgeView, edge, end, edge-view, SizeView, size, size-view, TerminalsView, terminals, terminals-view}
 use Rattle.network.proofs.Walk.{edges-edge, edges-end, edges-refused}
-use Rattle.network.proofs.Slots.{empty, slotFault-of, command-of, command-absent, commands-skip, withEdge-same, withEdge-other, withEdge-stored, Accepted, accepted-none}
+use Rattle.network.proofs.Slots.{empty, slotFault-of, command-of, commands-skip, withEdge-same, withEdge-other, withEdge-stored, accepted-none}
 
 -- The slots of N from `next` on are empty.
 abbrev EmptyFrom : Network → ℕ → Type 0

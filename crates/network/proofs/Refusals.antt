@@ -1,7 +1,7 @@
 -- The laws of `_when_` and `_then_`, by which the rules are put together.
 -- Assumes nothing.
 use mathlib.Core.Bool.{Bool, true, false, _||_, true≢false}
-use mathlib.Core.Path.{_≡_, refl, ap, _∙_}
+use mathlib.Core.Path.{_≡_, refl, ap}
 use Prim.Native.Nat.{ℕ, zero, suc, _≤_, _<_, zero-le}
 use native.Mathlib.Omega.{arith}
 use borrow.Author.Tests.{ltb-false, leb-false, eqb-false}
@@ -38,13 +38,10 @@ pub some-when : (r : ℕ) {b : Bool} → b ≡ true → (r when b) ≡ r
 unfolding _when_
 some-when r e = ap (λ b. r when b) e
 
--- A disjunction fails exactly if both sides do.
+-- A disjunction that fails fails on both sides.
 pub or-none : (a b : Bool) → (a || b) ≡ false → (a ≡ false) × (b ≡ false)
 or-none true b e = absurd (true≢false e)
 or-none false b e = (refl, e)
-
-pub none-or : {a b : Bool} → a ≡ false → b ≡ false → (a || b) ≡ false
-none-or {a} {b} e f = ap (λ x. x || b) e ∙ f
 
 -- A bound on each of two rules bounds them in a row.
 pub then-bounded : (m r s : ℕ) → r ≤ m → s ≤ m → (r then s) ≤ m

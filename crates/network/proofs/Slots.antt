@@ -1,19 +1,17 @@
 -- The 64 slots of a record: what is stored in one, and what the record test and the writer make of all of them.
 -- Assumes nothing.
-use mathlib.Core.Bool.{Bool, true, false, cond, _||_, or-false, or-true}
-use mathlib.Core.List.{List, [], _∷_, _++_, map, foldr, flatMap}
-use mathlib.Core.Path.{_≡_, refl, ap, ap₂, sym, _∙_}
-use Prim.Native.Nat.{ℕ, zero, suc, _+_, _-_, _≤_, _<_, _^_, zero-le}
+use mathlib.Core.Bool.{true, false, _||_, or-false, or-true}
+use mathlib.Core.List.{[], _++_, map, foldr, flatMap}
+use mathlib.Core.Path.{_≡_, refl, ap, ap₂, _∙_}
+use Prim.Native.Nat.{ℕ, zero, suc, _+_, _-_, _≤_, _<_, zero-le}
 use native.Mathlib.Decide.{ℕ-discrete}
 use native.Mathlib.Omega.{arith}
-use lib.Dec.{eqb}
-use lib.ListN.{length, getD, set, length-set}
+use lib.ListN.{length-set}
 use lib.Seq.{getD-set-same, getD-set-other}
 use borrow.Author.Tests.{eq-eqb, ne-eqb}
-use Rattle.bitset.specs.Members.{has, insert}
 use Rattle.bitset.proofs.Members.{has-insert, insert-lt}
 use Rattle.network.specs.declared.Network.{Network}
-use Rattle.network.specs.Record.{_then_, Stored, rising, slots, Slot, slot, slotFaultOf, slotFault, slotsFault, sizeFault, terminalFault, endFault, absentFault, faultOf, hasEdge, firstEnd, secondEnd, withEdge}
+use Rattle.network.specs.Record.{_then_, Stored, rising, Slot, slot, slotFaultOf, slotFault, slotsFault, sizeFault, terminalFault, faultOf, hasEdge, firstEnd, secondEnd, withEdge}
 use Rattle.network.specs.Format.{commandOf, edgeCommand}
 use Rattle.network.proofs.Refusals.{then-none, none-then}
 

@@ -9,7 +9,7 @@ use lib.ListN.{length, drop, length-drop}
 use Rattle.network.specs.declared.Network.{Network}
 use Rattle.network.specs.declared.Decoded.{Decoded}
 use Rattle.network.specs.declared.EdgeStep.{EdgeStep}
-use Rattle.network.specs.Record.{_when_, _then_, withEdge, noNetwork}
+use Rattle.network.specs.Record.{_when_, _then_, withEdge}
 use Rattle.network.specs.Format.{edges, edgeStep, edgeRefusal, accept, refuse, walk, endedBy, edgeNumber}
 use Rattle.network.proofs.Steps.{EdgeView, edge, end, edge-view}
 

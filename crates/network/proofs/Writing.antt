@@ -1,9 +1,9 @@
 -- Reading what was written gives the same record, and how long a plan can be.
 -- Assumes nothing.
-use mathlib.Core.Bool.{Bool, true, false, cond, _&&_, _||_, or-false, or-true, and-false, and-true}
+use mathlib.Core.Bool.{Bool, true, false, cond, _&&_, _||_, or-false, or-true, and-false}
 use mathlib.Core.List.{List, [], _∷_, _++_, flatMap, append-assoc, append-nil}
 use mathlib.Core.Logic.{_⊎_, inl, inr}
-use mathlib.Core.Path.{_≡_, refl, ap, ap₂, sym, subst, _∙_}
+use mathlib.Core.Path.{_≡_, refl, ap, ap₂, sym, _∙_}
 use Prim.Native.Nat.{ℕ, zero, suc, _+_, _-_, _*_, _%_, _^_, _≤_, _<_, zero-le}
 use native.Mathlib.Nat.{mod-eq-of-lt, mod-one, le-refl, add-zero, zero-add}
 use native.Mathlib.Decide.{ℕ-discrete, decLt}
@@ -15,13 +15,12 @@ use borrow.Author.Tests.{lt-ltb, le-ltb, eq-eqb, ne-eqb, ltb-false}
 use Rattle.bitset.specs.Members.{has, insert, size}
 use Rattle.bitset.proofs.Members.{has-insert, has-mod, same-members}
 use Rattle.network.specs.declared.Network.{Network}
-use Rattle.network.specs.declared.Decoded.{Decoded}
-use Rattle.network.specs.Record.{Stored, Slot, slot, rising, slots, slotFault, endFault, sizeFault, terminalFault, absentFault, faultOf, bare, withEdge, hasEdge, firstEnd, secondEnd}
-use Rattle.network.specs.Format.{edges, accept, commandOf, edgeCommand, WrittenTo, encodeOf, decodeOf, afterSize, afterTerminals, terminalsStep, sizeStep}
+use Rattle.network.specs.Record.{Stored, Slot, slot, rising, slots, slotFault, endFault, absentFault, faultOf, bare, withEdge, hasEdge, firstEnd, secondEnd}
+use Rattle.network.specs.Format.{edges, accept, commandOf, edgeCommand, WrittenTo, encodeOf, decodeOf, afterSize, afterTerminals}
 use Rattle.network.proofs.Refusals.{when-none, or-none}
 use Rattle.network.proofs.Steps.{size-taken, terminals-taken, edge-taken, end-taken}
 use Rattle.network.proofs.Walk.{edges-edge, edges-end}
-use Rattle.network.proofs.Slots.{empty, slotFault-of, command-absent, Accepted, accepted}
+use Rattle.network.proofs.Slots.{empty, command-absent, accepted}
 
 -- The first k of 64 ends, the others 0.
 prefix : ℕ → List ℕ → List ℕ

@@ -1,6 +1,6 @@
 -- `faults::pair_fault` meets its contract: each return rewrites the rule by the tests that led there.
 -- Assumes nothing.
-use mathlib.Core.Path.{sym, _∙_}
+use mathlib.Core.Path.{sym}
 use borrow.Author.Tests.{le-leb, lt-leb, eq-eqb, ne-eqb}
 use Rattle.network.specs.Record.{_when_, _then_, pairFault}
 use Rattle.network.proofs.Refusals.{some-then}

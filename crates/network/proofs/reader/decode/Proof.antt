@@ -1,20 +1,9 @@
 -- `reader::decode` meets its contract: each step's answer is the definition's, and the first refusal leaves.
 -- Assumes nothing.
-use mathlib.Core.Path.{_≡_, refl, sym, ap, ap₂, _∙_}
-use mathlib.Core.Logic.{⊎-elim}
-use mathlib.Core.List.{List, [], _∷_}
-use Prim.Native.Nat.{ℕ}
-use native.Mathlib.Omega.{arith}
-use types.Run.{OneOf}
-use denote.Enum.Declared.{tagOf}
+use mathlib.Core.Path.{sym, ap, ap₂, _∙_}
 use lib.ListN.{drop}
 use lib.Seq.{drop-drop}
-use Rattle.network.specs.declared.SizeStep.{SizeStep}
-use Rattle.network.specs.declared.TerminalsStep.{TerminalsStep}
-use Rattle.network.specs.Record.{bare}
-use Rattle.network.specs.Format.{sizeStep, sizeNumber, terminalsStep, terminalsNumber, afterSize, afterTerminals, decodeOf, refuse, walk}
-use Rattle.network.proofs.SizeStep as size-step
-use Rattle.network.proofs.TerminalsStep as terminals-step
+use Rattle.network.specs.Format.{sizeNumber, terminalsNumber, afterSize, afterTerminals, decodeOf, refuse, walk}
 use borrow.Author.Needs.{needs}
 use Rattle.network.proofs.reader.decode.Statement.{statement}
 use Rattle.network.proofs.reader.decode.Tie as tie

@@ -1,8 +1,7 @@
 -- `reader::edge_fault` meets its contract: the first fault is that of the number, or else that of the ends.
 -- Assumes nothing.
-use mathlib.Core.Path.{sym, ap, _∙_}
+use mathlib.Core.Path.{sym, _∙_}
 use native.Mathlib.Omega.{arith}
-use Rattle.network.specs.Record.{_then_, endFault}
 use Rattle.network.proofs.Refusals.{none-then, some-then}
 use borrow.Author.Needs.{needs}
 use Rattle.network.proofs.reader.edge_fault.Statement.{statement}

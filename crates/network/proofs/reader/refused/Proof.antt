@@ -1,8 +1,5 @@
 -- `reader::refused` meets its contract, by that of `bare_network`.
 -- Assumes nothing.
-use mathlib.Core.Path.{ap}
-use Rattle.network.specs.declared.Network.{Network}
-use Rattle.network.specs.declared.Decoded.{Decoded}
 use borrow.Author.Needs.{needs}
 use Rattle.network.proofs.reader.refused.Statement.{statement}
 use Rattle.network.proofs.reader.refused.Tie as tie

@@ -1,7 +1,6 @@
 -- `reader::terminals_at` meets its contract: each way through it is a law of the step at an offset.
 -- Assumes nothing.
-use mathlib.Core.Path.{sym, ap, _∙_}
-use native.Mathlib.Omega.{arith}
+use mathlib.Core.Path.{sym, _∙_}
 use Rattle.network.proofs.Offsets.{terminals-refused, terminals-nothing, terminals-another, terminals-missing, terminals-values}
 use borrow.Author.Needs.{needs}
 use Rattle.network.proofs.reader.terminals_at.Statement.{statement}

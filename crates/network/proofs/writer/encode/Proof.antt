@@ -1,11 +1,10 @@
 -- `writer::encode` meets its contract: a refusal leaves the buffer, and otherwise header, slots and end stand in it.
 -- Assumes nothing.
-use mathlib.Core.Path.{_≡_, sym, ap, _∙_}
+use mathlib.Core.Path.{sym, ap, _∙_}
 use Prim.Native.Nat.{ℕ, _≤_}
 use native.Mathlib.Omega.{arith}
 use borrow.Author.Tests.{lt-ltb, le-ltb}
 use lib.ListN.{length}
-use Rattle.network.specs.Record.{_then_}
 use Rattle.network.specs.Format.{encodeOf, encodeRefusal}
 use Rattle.network.proofs.Refusals.{none-then, some-then, some-when, none-when}
 use Rattle.network.proofs.Encoding.{encode-refused, encode-written, header-room, header-kept, end-room, end-length, end-bytes}

@@ -1,6 +1,6 @@
 -- `writer::put_slot` meets its contract: four stores in a row if the edge is present, else none.
 -- Assumes nothing.
-use mathlib.Core.Path.{_≡_, refl, sym, ap, _∙_}
+use mathlib.Core.Path.{refl, sym}
 use Prim.Native.Nat.{_+_, _≤_}
 use native.Mathlib.Numerals.{towards-suc}
 use native.Mathlib.Nat.{add-zero}

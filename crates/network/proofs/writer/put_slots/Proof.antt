@@ -1,13 +1,13 @@
 -- `writer::put_slots` meets its contract. The invariant: the plan is written up to here, and what is left are the commands from slot k on.
 -- The measure is the number of slots left. Assumes nothing.
-use mathlib.Core.Path.{_≡_, refl, sym, ap, _∙_}
+use mathlib.Core.Path.{_≡_, sym, ap, _∙_}
 use mathlib.Core.Bool.{Bool}
 use Rattle.network.specs.declared.Network.{Network}
 use Prim.Native.Nat.{ℕ, _-_, _≤_}
 use native.Mathlib.Numerals.{add-one}
 use native.Mathlib.Omega.{arith}
 use borrow.Author.Needs.{needs}
-use lib.ListN.{length, drop}
+use lib.ListN.{drop}
 use Rattle.network.specs.Record.{hasEdge, firstEnd, secondEnd}
 use Rattle.network.specs.Format.{commandOf, edgeCommand, encodeOf, WrittenTo}
 use Rattle.network.proofs.Writing.{rest, rest-all, rest-none, written-length, slot-room, slot-written, slots-left}
