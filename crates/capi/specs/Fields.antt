@@ -3,11 +3,14 @@
 --   assembled ..         a network from its fields
 --   Read s r N           reading the bytes s gives the refusal r and the network N
 --   Written N lent r n after     writing N into a buffer that held `lent` gives the refusal r and the count n, and leaves `after` in it
+--   Found N r n e        finding the relevant part of N gives the refusal r, the nodes n and the edges e
+--   Judged N c r v       judging the set c in N gives the refusal r and the verdict v, by its number
 use mathlib.Core.List.{List}
 use mathlib.Core.Path.{_≡_}
 use Prim.Native.Nat.{ℕ}
 use Rattle.network.specs.declared.Network.{Network}
 use Rattle.network.specs.Format.{decodeOf, encodedBy, bytesAfter}
+use Rattle.reach.specs.Answers.{relevantOf, verdictOf, refusalNumber, verdictNumber}
 
 abbrev pub assembled : ℕ → ℕ → ℕ → ℕ → List ℕ → List ℕ → Network
 assembled nodes source sink present first second = record {
@@ -27,3 +30,12 @@ pub record Written (N : Network) (lent : List ℕ) (r n : ℕ) (after : List ℕ
   pub refusal : r ≡ encodedBy N lent .refusal
   pub count : n ≡ encodedBy N lent .count
   pub bytes : after ≡ bytesAfter N lent
+
+pub record Found (N : Network) (r n e : ℕ) : Type 0 where
+  pub refusal : r ≡ relevantOf N .refusal
+  pub nodes : n ≡ relevantOf N .nodes .0
+  pub edges : e ≡ relevantOf N .edges .0
+
+pub record Judged (N : Network) (c r v : ℕ) : Type 0 where
+  pub refusal : r ≡ refusalNumber (verdictOf N c)
+  pub verdict : v ≡ verdictNumber (verdictOf N c)

@@ -6,7 +6,7 @@ use bitset::EdgeSet;
 use network::Network;
 ghost use mathlib.Core.Path.{_≡_};
 ghost use Rattle.network.specs.Record.{faultOf};
-ghost use Rattle.capi.specs.Fields.{assembled, Read, Written};
+ghost use Rattle.capi.specs.Fields.{assembled, Read, Written, Found, Judged};
 
 // Reads a plan. Gives the refusal's number, 0 if there is none, and fills in the record, all zero on refusal.
 #[no_mangle]
@@ -91,4 +91,49 @@ pub extern "C" fn cutlist_encode(
     let encoded = network::encode(assemble(nodes, source, sink, present, first, second), plan);
     *count = encoded.count;
     encoded.refusal
+}
+
+// Finds the relevant nodes and edges. Gives the refusal's number, 0 if there is none, and fills in both sets, empty on refusal.
+#[no_mangle]
+pub extern "C" fn cutlist_relevant(
+    nodes: u8,
+    source: u8,
+    sink: u8,
+    present: u64,
+    first: &[u8; 64],
+    second: &[u8; 64],
+    node_set: &mut u32,
+    edge_set: &mut u64,
+) -> u8
+    ensures { λ r. ⌜ Found (assembled nodes source sink present (now (first .entry)) (now (second .entry))) r (now («node_set» .exit)) (now («edge_set» .exit)) ⌝ }
+{
+    let part = reach::relevant(assemble(nodes, source, sink, present, first, second));
+    let relevant_nodes = part.nodes;
+    let relevant_edges = part.edges;
+    *node_set = relevant_nodes.0;
+    *edge_set = relevant_edges.0;
+    part.refusal
+}
+
+// Judges a set of edges. Gives the refusal's number, 0 if there is none, and fills in the verdict:
+// 1 not a cut, 2 a cut but not minimal, 3 minimal; 0 on refusal.
+#[no_mangle]
+pub extern "C" fn cutlist_classify(
+    nodes: u8,
+    source: u8,
+    sink: u8,
+    present: u64,
+    first: &[u8; 64],
+    second: &[u8; 64],
+    set: u64,
+    verdict: &mut u8,
+) -> u8
+    ensures { λ r. ⌜ Judged (assembled nodes source sink present (now (first .entry)) (now (second .entry))) set r (now (verdict .exit)) ⌝ }
+{
+    let judged = reach::classify(
+        assemble(nodes, source, sink, present, first, second),
+        EdgeSet(set),
+    );
+    *verdict = reach::verdict_number(judged);
+    reach::refusal_number(judged)
 }

@@ -13,7 +13,7 @@ use Rattle.graph.specs.Paths.{Minpath, Connected, SameMinpaths}
 use Rattle.graph.specs.Cuts.{only, without, Cut, Mincut}
 use Rattle.graph.specs.MemberList.{members}
 use Rattle.graph.specs.Reach.{reachOf}
-use Rattle.graph.specs.CutTests.{severed, every, cutTest, mincutTest}
+use Rattle.graph.specs.CutTests.{severed, every, cutTest, allNeeded, mincutTest}
 use Rattle.graph.proofs.Tests.{T-not, T-then, T-eqb, T-every}
 use Rattle.graph.proofs.Sets.{_∈_, ∈-dec, in-and, minus-⊆, member-lt, in-members}
 use Rattle.graph.proofs.Minpaths.{minpath-present, walk-minpath, minpath-only, connected-minpath, minpath-least}
@@ -124,7 +124,7 @@ module _ (N : Network) (B : Bounded N) where
       Iff·trans (cut-connected N c) (Iff·and Iff·rfl (Iff·not (Iff·symm (in-reach-single (without N c) B′ (N .source) (N .sink)))))
 
   -- Of a set of present edges, the test of what it severs tells whether it is a cut.
-  severed-iff : (c : ℕ) → c ⊆ N .present .0 → T (severed N c) ↔ Cut N c
+  pub severed-iff : (c : ℕ) → c ⊆ N .present .0 → T (severed N c) ↔ Cut N c
   unfolding severed
   severed-iff c l =
       let reached = T-not (has (reachOf (without N c) (2 ^ N .source)) (N .sink)) in
@@ -142,7 +142,7 @@ module _ (N : Network) (B : Bounded N) where
 
   -- The test of a mincut is right.
   pub mincutTest-iff : (c : ℕ) → T (mincutTest N c) ↔ Mincut N c
-  unfolding mincutTest
+  unfolding mincutTest allNeeded
   mincutTest-iff c =
       let kept : ℕ → Bool = λ e. not (severed N (c ∖ 2 ^ e)) in
       let both = T-then (cutTest N c) (every kept (members 64 c)) in

@@ -38,7 +38,7 @@ Beside N s e v = (u : ℕ) × ((u ∈ s) × Joins N e u v)
 
 module _ (N : Network) (s : ℕ) where
   -- Over a present edge come the nodes that it joins to nodes of s.
-  in-across : (k : ℕ) → k ∈ N .present .0 → (t v : ℕ) → (v ∈ across N s k t) ↔ ((v ∈ t) ⊎ Beside N s k v)
+  pub in-across : (k : ℕ) → k ∈ N .present .0 → (t v : ℕ) → (v ∈ across N s k t) ↔ ((v ∈ t) ⊎ Beside N s k v)
   unfolding across Joins
   in-across k there t v =
       let a : ℕ = firstEnd N k in
@@ -77,6 +77,23 @@ module _ (N : Network) (s : ℕ) where
         ]),
       )
 
+module _ (N : Network) (small : N .present .0 < 2 ^ 64) where
+  -- A round adds exactly the nodes that an edge joins to nodes of the set.
+  pub in-round : (s v : ℕ) → (v ∈ round N s) ↔ ((v ∈ s) ⊎ ((e : ℕ) × Beside N s e v))
+  unfolding Joins
+  in-round s v =
+      let listed = in-members 64 (N .present .0) in
+      let over = in-roundOver N s (edgeList N) (λ e m. listed e .0 m .0) v in
+      let list : (e : ℕ) → e ∈ N .present .0 → List·Memᴰ e (edgeList N) =
+      λ e m. listed e .1 (m, member-lt 64 (N .present .0) e small m) in (
+        λ m. ⊎-map (λ n. n) (λ j. (j .0, j .1 .1)) (over .0 m),
+        λ c. over .1 (⊎-map (λ n. n) (λ j. (j .0, (list (j .0) (j .1 .1 .1 .0), j .1))) c),
+      )
+
+  -- A set is part of its round.
+  pub round-grows : (s : ℕ) → s ⊆ round N s
+  round-grows s v m = in-round s v .1 (inl m)
+
 -- A walk does not leave a closed set.
 pub closed-walk : (N : Network) (s : ℕ) → Closed N s → (p : List Step) (u v : ℕ) → Leads N u p v → u ∈ s → v ∈ s
 unfolding Leads
@@ -89,25 +106,9 @@ pub record Bounded (N : Network) : Type 0 where
   pub ends : (e u v : ℕ) → Joins N e u v → v < N .nodes
 
 module _ (N : Network) (B : Bounded N) where
-  -- A round adds exactly the nodes that an edge joins to nodes of the set.
-  pub in-round : (s v : ℕ) → (v ∈ round N s) ↔ ((v ∈ s) ⊎ ((e : ℕ) × Beside N s e v))
-  unfolding Joins
-  in-round s v =
-      let listed = in-members 64 (N .present .0) in
-      let over = in-roundOver N s (edgeList N) (λ e m. listed e .0 m .0) v in
-      let list : (e : ℕ) → e ∈ N .present .0 → List·Memᴰ e (edgeList N) =
-      λ e m. listed e .1 (m, member-lt 64 (N .present .0) e (B .edges) m) in (
-        λ m. ⊎-map (λ n. n) (λ j. (j .0, j .1 .1)) (over .0 m),
-        λ c. over .1 (⊎-map (λ n. n) (λ j. (j .0, (list (j .0) (j .1 .1 .1 .0), j .1))) c),
-      )
-
-  -- A set is part of its round.
-  pub round-grows : (s : ℕ) → s ⊆ round N s
-  round-grows s v m = in-round s v .1 (inl m)
-
   -- A larger set has a larger round.
   pub round-mono : (s t : ℕ) → s ⊆ t → round N s ⊆ round N t
-  round-mono s t h v m = in-round t v .1 (elim (in-round s v .0 m) [
+  round-mono s t h v m = in-round N (B .edges) t v .1 (elim (in-round N (B .edges) s v .0 m) [
     | inl n ↦ inl (h v n)
     | inr j ↦ inr (j .0, (j .1 .0, (h (j .1 .0) (j .1 .1 .0), j .1 .1 .1)))
   ])
@@ -115,11 +116,11 @@ module _ (N : Network) (B : Bounded N) where
   -- A round adds nothing exactly if the set is closed.
   pub round-closed : (s : ℕ) → (round N s ≡ s) ↔ Closed N s
   round-closed s = (
-    λ fixed e u v j m. rw fixed at (in-round s v .1 (inr (e, (u, (m, j))))),
-    λ c. ⊆-antisym (round N s) s (λ v m. elim (in-round s v .0 m) [
+    λ fixed e u v j m. rw fixed at (in-round N (B .edges) s v .1 (inr (e, (u, (m, j))))),
+    λ c. ⊆-antisym (round N s) s (λ v m. elim (in-round N (B .edges) s v .0 m) [
       | inl n ↦ n
       | inr j ↦ c (j .0) (j .1 .0) v (j .1 .1 .1) (j .1 .1 .0)
-    ]) (round-grows s),
+    ]) (round-grows N (B .edges) s),
   )
 
   -- ---- the rounds
@@ -144,7 +145,7 @@ module _ (N : Network) (B : Bounded N) where
   rounds-start : (n s : ℕ) → s ⊆ rounds N (edgeList N) n s
   unfolding rounds
   rounds-start zero s v m = m
-  rounds-start (suc n) s v m = rw (rounds-suc n s) (rounds-start n (round N s) v (round-grows s v m))
+  rounds-start (suc n) s v m = rw (rounds-suc n s) (rounds-start n (round N s) v (round-grows N (B .edges) s v m))
 
   -- The rounds add connected nodes alone.
   rounds-connected : (n s v : ℕ) → v ∈ rounds N (edgeList N) n s → (u : ℕ) × ((u ∈ s) × Connected N u v)
@@ -152,7 +153,7 @@ module _ (N : Network) (B : Bounded N) where
   rounds-connected zero s v m = (v, (m, ([], refl)))
   rounds-connected (suc n) s v m =
       let r = rounds-connected n (round N s) v (rw (rounds-suc n s) at m) in
-      elim (in-round s (r .0) .0 (r .1 .0)) [
+      elim (in-round N (B .edges) s (r .0) .0 (r .1 .0)) [
         | inl k ↦ (r .0, (k, r .1 .1))
         | inr j ↦ (j .1 .0, (j .1 .1 .0, (record { edge = j .0; to = r .0 } ∷ r .1 .1 .0, (j .1 .1 .1, r .1 .1 .1))))
       ]
@@ -160,8 +161,8 @@ module _ (N : Network) (B : Bounded N) where
   -- A set whose round has no more members below the node count is closed.
   settled : (s : ℕ) → (size (N .nodes) s < size (N .nodes) (round N s) → ⊥) → Closed N s
   settled s full e u v j m = Dec·not-not (∈-dec v s) .0 (λ n.
-      let added = is-true (has (round N s) v) (in-round s v .1 (inr (e, (u, (m, j))))) in
-      full (size-lt (N .nodes) s (round N s) v (round-grows s) (B .ends e u v j) added (same-test (has s v) false n absurd)))
+      let added = is-true (has (round N s) v) (in-round N (B .edges) s v .1 (inr (e, (u, (m, j))))) in
+      full (size-lt (N .nodes) s (round N s) v (round-grows N (B .edges) s) (B .ends e u v j) added (same-test (has s v) false n absurd)))
 
   -- With as many rounds as nodes are missing, the rounds end at a closed set.
   rounds-closed : (n s : ℕ) → N .nodes ≤ n + size (N .nodes) s → Closed N (rounds N (edgeList N) n s)

@@ -3,6 +3,7 @@
 --   severed N c          without the edges of c the source does not reach the sink
 --   every f l            the test f holds of every number of l
 --   cutTest N c          whether c is a cut
+--   allNeeded N c        no member of c can be dropped: without the others alone the source reaches the sink
 --   mincutTest N c       whether c is a mincut
 use mathlib.Core.Bool.{Bool, true, false, not}
 use mathlib.Core.List.{List, [], _∷_}
@@ -25,9 +26,8 @@ every f (k ∷ l) = elim (f k) [ true ↦ every f l | false ↦ false ]
 unfoldable pub cutTest : Network → ℕ → Bool
 cutTest N c = elim (eqb (bitAnd c (N .present .0)) c) [ true ↦ severed N c | false ↦ false ]
 
+unfoldable pub allNeeded : Network → ℕ → Bool
+allNeeded N c = every (λ e. not (severed N (c ∖ 2 ^ e))) (members 64 c)
+
 unfoldable pub mincutTest : Network → ℕ → Bool
-mincutTest N c =
-    elim (cutTest N c) [
-      | true ↦ every (λ e. not (severed N (c ∖ 2 ^ e))) (members 64 c)
-      | false ↦ false
-    ]
+mincutTest N c = elim (cutTest N c) [ true ↦ allNeeded N c | false ↦ false ]

@@ -1,0 +1,26 @@
+-- `cutlist_relevant` meets its contract, by those of `assemble` and `relevant`.
+-- Assumes nothing.
+use mathlib.Core.Path.{ap, _∙_}
+use Rattle.reach.specs.declared.RelevantPart.{RelevantPart}
+use Rattle.reach.specs.Answers.{relevantOf}
+use borrow.Author.Needs.{needs}
+use Rattle.capi.proofs.cutlist_relevant.Statement.{statement}
+use Rattle.capi.proofs.cutlist_relevant.Tie as tie
+
+assemble-requires : tie.Need-assemble-requires
+assemble-requires c κs = search needs
+
+relevant-requires : tie.Need-relevant-requires
+relevant-requires c κs = search needs
+
+returns : tie.Need-returns
+returns c =
+    let part = c .before .before .relevant .ensures ∙ ap relevantOf (c .before .before .before .assemble .ensures) in
+    record {
+      refusal = ap (λ (p : RelevantPart). p .refusal) part;
+      nodes = ap (λ (p : RelevantPart). p .nodes .0) part;
+      edges = ap (λ (p : RelevantPart). p .edges .0) part;
+    }
+
+pub cutlist-relevant-spec : {M : Type 1} → statement M
+cutlist-relevant-spec = tie.close (tie.spec assemble-requires relevant-requires returns)

@@ -1,0 +1,188 @@
+-- The answers of the calls: how they come from the tests that the code makes, and that they are right by the definitions of graph theory.
+-- Assumes nothing of a network but what is said.
+use mathlib.Core.Path.{_≡_, refl, sym, ap, _∙_}
+use mathlib.Core.Bool.{Bool, true, false, not}
+use mathlib.Core.Logic.{_↔_}
+use Prim.Native.Nat.{ℕ, zero, suc, _^_, _<_}
+use native.Mathlib.Nat.{zero-lt-suc}
+use native.Mathlib.Omega.{arith}
+use borrow.Author.Tests.{eq-eqb, ne-eqb, eqb-true, not-false}
+use denote.Floats.{is-true, passes}
+use lib.Bits.{bitAnd}
+use lib.Dec.{T, eqb}
+use Rattle.bitset.specs.Members.{_⊆_, _∖_}
+use Rattle.bitset.proofs.Subsets.{same-test, subset-and}
+use Rattle.network.specs.declared.Network.{Network}
+use Rattle.network.specs.Record.{_when_, faultOf, Stored}
+use Rattle.network.proofs.Refusals.{then-none, none-then, some-then, when-none, none-when, some-when}
+use Rattle.graph.specs.MemberList.{members}
+use Rattle.graph.specs.Cuts.{Cut, Mincut, RelevantEdge, RelevantNode}
+use Rattle.graph.specs.CutTests.{severed, cutTest, allNeeded, mincutTest}
+use Rattle.graph.specs.Relevant.{relevantNodes, relevantEdges}
+use Rattle.graph.proofs.Tests.{T-not, T-then, T-every}
+use Rattle.graph.proofs.Sets.{_∈_, member-lt, in-members}
+use Rattle.graph.proofs.Reach.{Bounded}
+use Rattle.graph.proofs.Cuts.{severed-iff, cutTest-iff, mincutTest-iff}
+use Rattle.graph.proofs.Sound.{accepted-sound}
+use Rattle.graph.proofs.Relevant.{in-relevantNodes, in-relevantEdges}
+use Rattle.reach.specs.declared.Verdict.{Verdict}
+use Rattle.reach.specs.declared.Verdict.the-variants.{NotCut, NotMinimal, Minimal, Refused}
+use Rattle.reach.specs.Answers.{partFrom, partBeside, relevantOf, judgeFault, verdictOn, verdictBeside, verdictOf, Says}
+
+-- ---- the relevant part
+
+-- Beside a refusal both sets are empty.
+pub part-refused : (N : Network) (r n e : ℕ) → r ≡ faultOf N → (r ≡ 0 → ⊥) → n ≡ 0 → e ≡ 0 → partFrom r n e ≡ relevantOf N
+unfolding partBeside
+part-refused N r n e fault some q s = rw (← fault, q, s) (go r some)
+  where
+    go : (r : ℕ) → (r ≡ 0 → ⊥) → partFrom r 0 0 ≡ partBeside N r
+    go zero some = absurd (some refl)
+    go (suc r) some = refl
+
+-- Without a refusal they are the relevant nodes and edges.
+pub part-accepted : (N : Network) (n e : ℕ) → faultOf N ≡ 0 → n ≡ relevantNodes N → e ≡ relevantEdges N → partFrom 0 n e ≡ relevantOf N
+unfolding partBeside
+part-accepted N n e ok q s = rw (ok, q, s)
+
+-- Of an accepted network, the members of the relevant part are exactly the relevant nodes and edges.
+pub relevant-right : (N : Network) → Stored N → faultOf N ≡ 0
+    → ((v : ℕ) → (v ∈ relevantOf N .nodes .0) ↔ RelevantNode N v) × ((e : ℕ) → (e ∈ relevantOf N .edges .0) ↔ RelevantEdge N e)
+unfolding partBeside
+relevant-right N stored ok =
+    let S = accepted-sound N stored ok in
+    rw ok (in-relevantNodes N S, in-relevantEdges N S)
+
+-- ---- the tests of judging
+
+module _ (N : Network) (c : ℕ) where
+  -- Where each member is needed, all are.
+  pub needed-true : ((e : ℕ) → e ∈ c → T (not (severed N (c ∖ 2 ^ e)))) → allNeeded N c ≡ true
+  unfolding allNeeded
+  needed-true each =
+      is-true (allNeeded N c) (T-every (λ e. not (severed N (c ∖ 2 ^ e))) (members 64 c) .1 (λ e m. each e (in-members 64 c e .0 m .0)))
+
+  -- Where a member can be dropped, not all are.
+  pub needed-false : c < 2 ^ 64 → (e : ℕ) → e ∈ c → severed N (c ∖ 2 ^ e) ≡ true → allNeeded N c ≡ false
+  unfolding allNeeded
+  needed-false small e m dropped =
+      same-test (allNeeded N c) false (λ t.
+      T-not (severed N (c ∖ 2 ^ e)) .0
+      (T-every (λ e. not (severed N (c ∖ 2 ^ e))) (members 64 c) .0 t e (in-members 64 c e .1 (m, member-lt 64 c e small m)))
+      (passes (severed N (c ∖ 2 ^ e)) dropped)) absurd
+
+  -- ---- the verdict from the tests
+
+  -- A fault of the record refuses.
+  pub judge-record : (r : ℕ) → r ≡ faultOf N → (r ≡ 0 → ⊥) → judgeFault N c ≡ r
+  unfolding judgeFault
+  judge-record r fault some = rw (← fault) (some-then r _ (omega arith))
+
+  -- An edge that is not present refuses.
+  pub judge-absent : faultOf N ≡ 0 → (c ⊆ N .present .0 → ⊥) → judgeFault N c ≡ 14
+  unfolding judgeFault
+  judge-absent ok out =
+      none-then _ ok
+      ∙ some-when 14 (ap not (ne-eqb (bitAnd c (N .present .0)) c (λ e. out (subset-and c (N .present .0) .1 e))))
+
+  -- A set of present edges of an accepted network is not refused.
+  pub judge-none : faultOf N ≡ 0 → c ⊆ N .present .0 → judgeFault N c ≡ 0
+  unfolding judgeFault
+  judge-none ok within =
+      none-then _ ok
+      ∙ none-when 14 (ap not (eq-eqb (bitAnd c (N .present .0)) c (subset-and c (N .present .0) .0 within)))
+
+  -- What is not refused is a set of present edges of an accepted network.
+  judge-ok : judgeFault N c ≡ 0 → (faultOf N ≡ 0) × (c ⊆ N .present .0)
+  unfolding judgeFault
+  judge-ok none =
+      let b : Bool = eqb (bitAnd c (N .present .0)) c in
+      let p = then-none (faultOf N) (14 when not b) none in
+      (p .0, subset-and c (N .present .0) .1 (eqb-true _ _ (not-false b (when-none 14 (not b) (zero-lt-suc 13) (p .1)))))
+
+  -- The verdict beside a refusal is the refusal.
+  pub verdict-refused : (r : ℕ) → judgeFault N c ≡ r → (r ≡ 0 → ⊥) → Refused r ≡ verdictOf N c
+  unfolding verdictBeside
+  verdict-refused r fault some = rw fault (go r some)
+    where
+      go : (r : ℕ) → (r ≡ 0 → ⊥) → Refused r ≡ verdictBeside N c r
+      go zero some = absurd (some refl)
+      go (suc r) some = refl
+
+  -- Without a refusal it is the verdict on the set.
+  verdict-judged : judgeFault N c ≡ 0 → verdictOf N c ≡ verdictOn N c
+  unfolding verdictBeside
+  verdict-judged none = rw none
+
+  module _ (ok : faultOf N ≡ 0) (within : c ⊆ N .present .0) where
+    -- A set that severs nothing is not a cut.
+    pub verdict-not-cut : severed N c ≡ false → NotCut ≡ verdictOf N c
+    unfolding verdictOn
+    verdict-not-cut e = sym (verdict-judged (judge-none ok within) ∙ rw (e, verdictOn))
+
+    -- A set that severs, and whose members are all needed, is minimal.
+    pub verdict-minimal : severed N c ≡ true → allNeeded N c ≡ true → Minimal ≡ verdictOf N c
+    unfolding verdictOn
+    verdict-minimal e f = sym (verdict-judged (judge-none ok within) ∙ rw (e, f, verdictOn))
+
+    -- A set that severs, and whose members are not all needed, is not minimal.
+    pub verdict-not-minimal : severed N c ≡ true → allNeeded N c ≡ false → NotMinimal ≡ verdictOf N c
+    unfolding verdictOn
+    verdict-not-minimal e f = sym (verdict-judged (judge-none ok within) ∙ rw (e, f, verdictOn))
+
+-- ---- the verdict is right
+
+-- A cut is minimal exactly if all its members are needed.
+mincut-needed : (N : Network) → Bounded N → (c : ℕ) → Cut N c → Mincut N c ↔ T (allNeeded N c)
+unfolding mincutTest
+mincut-needed N B c k =
+    let both = T-then (cutTest N c) (allNeeded N c) in (
+      λ m. both .0 (mincutTest-iff N B c .1 m) .1,
+      λ t. mincutTest-iff N B c .0 (both .1 (cutTest-iff N B c .1 k, t)),
+    )
+
+-- On a set of present edges the verdict is right.
+on-right : (N : Network) → Bounded N → (c : ℕ) → c ⊆ N .present .0 → Says N c (verdictOn N c)
+unfolding verdictOn
+on-right N B c within = go (severed N c) refl (allNeeded N c) refl
+  where
+    cut : severed N c ≡ true → Cut N c
+    cut e = severed-iff N B c within .0 (passes (severed N c) e)
+
+    go : (a : Bool) → severed N c ≡ a → (b : Bool) → allNeeded N c ≡ b
+        → Says N c (elim a [ true ↦ elim b [ true ↦ Minimal | false ↦ NotMinimal ] | false ↦ NotCut ])
+    go true e true f = mincut-needed N B c (cut e) .1 (passes (allNeeded N c) f)
+    go true e false f = (cut e, λ m. rw f at (mincut-needed N B c (cut e) .0 m))
+    go false e b f = λ k. rw e at (severed-iff N B c within .1 k)
+
+module _ (N : Network) (stored : Stored N) (c : ℕ) where
+  -- What the verdict says holds, whatever the record and the set.
+  pub verdict-right : Says N c (verdictOf N c)
+  unfolding verdictBeside
+  verdict-right = go (judgeFault N c) refl
+    where
+      go : (r : ℕ) → judgeFault N c ≡ r → Says N c (verdictBeside N c r)
+      go zero e = let p = judge-ok N c e in on-right N (accepted-sound N stored (p .0) .bounded) c (p .1)
+      go (suc r) e = (e, zero-lt-suc r)
+
+  -- Of a set of present edges of an accepted network, the verdict is v exactly if what v says holds: exactly one of the three does.
+  pub verdict-iff : faultOf N ≡ 0 → c ⊆ N .present .0 → (v : Verdict) → (verdictOf N c ≡ v) ↔ Says N c v
+  verdict-iff ok within v = (λ e. rw e at verdict-right, go (verdictOf N c) v verdict-right)
+    where
+      accepted : (r : ℕ) → (judgeFault N c ≡ r) × (0 < r) → ⊥
+      accepted r p = omega (arith, judge-none N c ok within)
+
+      go : (w v : Verdict) → Says N c w → Says N c v → w ≡ v
+      go NotCut NotCut p q = refl
+      go NotCut NotMinimal p q = absurd (p (q .0))
+      go NotCut Minimal p q = absurd (p (q .cut))
+      go NotCut (Refused r) p q = absurd (accepted r q)
+      go NotMinimal NotCut p q = absurd (q (p .0))
+      go NotMinimal NotMinimal p q = refl
+      go NotMinimal Minimal p q = absurd (p .1 q)
+      go NotMinimal (Refused r) p q = absurd (accepted r q)
+      go Minimal NotCut p q = absurd (q (p .cut))
+      go Minimal NotMinimal p q = absurd (q .1 p)
+      go Minimal Minimal p q = refl
+      go Minimal (Refused r) p q = absurd (accepted r q)
+      go (Refused r) v p q = absurd (accepted r p)

@@ -1,0 +1,99 @@
+-- Scans: the members of a set are gone through one by one, the lowest first, and what was done for each is known at the end.
+-- Assumes nothing.
+use mathlib.Core.Path.{_≡_, refl}
+use mathlib.Core.Bool.{false, not, _&&_}
+use mathlib.Core.Logic.{_⊎_, inl, inr, _↔_}
+use Prim.Native.Nat.{ℕ, _^_, _≤_, _<_}
+use native.Mathlib.Decide.{ℕ-discrete}
+use native.Mathlib.Omega.{arith}
+use denote.Floats.{is-true, passes}
+use lib.Dec.{eqb}
+use Rattle.bitset.specs.Members.{has, _⊆_, Lowest}
+use Rattle.bitset.proofs.Subsets.{⊆-refl, subset-lt, same-test}
+use Rattle.graph.proofs.Tests.{T-and, T-not, T-eqb}
+use Rattle.graph.proofs.Sets.{_∈_, member-lt}
+
+-- The set t is s without its member k.
+pub record Less (s k t : ℕ) : Type 0 where
+  pub member : k ∈ s
+  pub rest : (j : ℕ) → (j ∈ t) ↔ ((j ∈ s) × (j ≡ k → ⊥))
+
+-- A set without its lowest member is less by that one.
+pub less-lowest : (s k t : ℕ) → Lowest 64 s k → k < 64 → ((j : ℕ) → has t j ≡ has s j && not (eqb j k)) → Less s k t
+less-lowest s k t low h rest = record {
+  member = passes (has s k) (low .member h);
+  rest = λ j. rw (rest j) (
+    λ m. let p = T-and (has s j) (not (eqb j k)) .0 m in (p .0, λ e. T-not (eqb j k) .0 (p .1) (T-eqb j k .1 e)),
+    λ p. T-and (has s j) (not (eqb j k)) .1 (p .0, T-not (eqb j k) .1 (λ t. p .1 (T-eqb j k .0 t))),
+  );
+}
+
+-- A set that is less is a smaller number.
+pub less-lt : (s k t : ℕ) → Less s k t → t < s
+less-lt s k t l =
+    subset-lt t s k (λ j m. l .rest j .0 m .0) (is-true (has s k) (l .member))
+    (same-test (has t k) false (λ m. l .rest k .0 m .1 refl) absurd)
+
+-- A set of members below the width whose lowest is not below the width has none.
+pub none-left : (all s k : ℕ) → all < 2 ^ 64 → s ⊆ all → Lowest 64 s k → 64 ≤ k → (j : ℕ) → j ∈ s → ⊥
+none-left all s k small within low h j m =
+    rw (low .none-below j (let l = member-lt 64 all j small (within j m) in omega arith)) at m
+
+-- ---- what holds of each member
+
+-- Of all members but those that are left, P holds.
+pub record Done (P : ℕ → Type 0) (all left : ℕ) : Type 0 where
+  pub within : left ⊆ all
+  pub done : (e : ℕ) → e ∈ all → (e ∈ left → ⊥) → P e
+
+module _ (P : ℕ → Type 0) (all : ℕ) where
+  -- At first all are left.
+  pub done-first : Done P all all
+  done-first = record { within = ⊆-refl all; done = λ e m n. absurd (n m) }
+
+  -- Where P holds of k, one less is left.
+  pub done-next : (left k next : ℕ) → Less left k next → P k → Done P all left → Done P all next
+  done-next left k next l p d = record {
+    within = λ e m. d .within e (l .rest e .0 m .0);
+    done = λ e m n. go e m n (ℕ-discrete e k);
+  }
+    where
+      go : (e : ℕ) → e ∈ all → (e ∈ next → ⊥) → Dec (e ≡ k) → P e
+      go e m n (yes q) = rw q p
+      go e m n (no q) = d .done e m (λ i. n (l .rest e .1 (i, q)))
+
+-- ---- what comes with the members
+
+-- The set acc holds base and what comes with each member but those that are left.
+pub record Gathered (Comes : ℕ → ℕ → Type 0) (base all left acc : ℕ) : Type 0 where
+  pub kept : base ⊆ acc
+  pub comes : (v : ℕ) → v ∈ acc → (v ∈ base) ⊎ ((e : ℕ) × ((e ∈ all) × Comes e v))
+  pub done : Done (λ e. (v : ℕ) → Comes e v → v ∈ acc) all left
+
+module _ (Comes : ℕ → ℕ → Type 0) (base all : ℕ) where
+  -- At first there is the base alone.
+  pub gathered-first : Gathered Comes base all all base
+  gathered-first = record { kept = ⊆-refl base; comes = λ v m. inl m; done = done-first (λ e. (v : ℕ) → Comes e v → v ∈ base) all }
+
+  -- Where what comes with k is added, one less is left.
+  pub gathered-next : (left k next acc acc′ : ℕ) → Less left k next → ((v : ℕ) → (v ∈ acc′) ↔ ((v ∈ acc) ⊎ Comes k v))
+      → Gathered Comes base all left acc → Gathered Comes base all next acc′
+  gathered-next left k next acc acc′ l adds g =
+      let more : Done (λ e. (v : ℕ) → Comes e v → v ∈ acc′) all left = record {
+        within = g .done .within;
+        done = λ e m n v c. adds v .1 (inl (g .done .done e m n v c));
+      } in
+      record {
+        kept = λ v m. adds v .1 (inl (g .kept v m));
+        comes = λ v m. elim (adds v .0 m) [
+          | inl i ↦ g .comes v i
+          | inr c ↦ inr (k, (g .done .within k (l .member), c))
+        ];
+        done = done-next (λ e. (v : ℕ) → Comes e v → v ∈ acc′) all left k next l (λ v c. adds v .1 (inr c)) more;
+      }
+
+  -- Where none is left, there is the base and all that comes with a member.
+  pub gathered-last : (left acc : ℕ) → ((j : ℕ) → j ∈ left → ⊥) → Gathered Comes base all left acc
+      → (v : ℕ) → (v ∈ acc) ↔ ((v ∈ base) ⊎ ((e : ℕ) × ((e ∈ all) × Comes e v)))
+  gathered-last left acc none g v =
+      (g .comes v, λ c. elim c [ inl m ↦ g .kept v m | inr j ↦ g .done .done (j .0) (j .1 .0) (none (j .0)) v (j .1 .1) ])

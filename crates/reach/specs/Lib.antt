@@ -1,0 +1,2 @@
+-- The definitions that the contracts of `reach` cite.
+pub mod Answers

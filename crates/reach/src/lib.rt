@@ -1,0 +1,36 @@
+// What is reached in a network, its relevant part (the paper's useful part), and the judging of a set of edges.
+//
+//   reach            the nodes that a set of nodes is connected to over a set of edges
+//   relevant         the relevant nodes and edges
+//   classify         what a set of edges is: not a cut, a cut but not minimal, or minimal
+//   refusal_number   the number of a verdict's refusal
+//   verdict_number   the number of a verdict
+//
+// Every function takes whatever it is given: none has a `requires`.
+use bitset::EdgeSet;
+use bitset::NodeSet;
+
+mod judging;
+mod part;
+mod spread;
+
+pub use judging::classify;
+pub use judging::refusal_number;
+pub use judging::verdict_number;
+pub use part::relevant;
+pub use spread::reach;
+
+// The relevant part: the refusal's number, 0 if there is none, beside the two sets, both empty on refusal.
+pub struct RelevantPart {
+    pub refusal: u8,
+    pub nodes: NodeSet,
+    pub edges: EdgeSet,
+}
+
+// What a set of edges is, or the number of the refusal.
+pub enum Verdict {
+    NotCut,
+    NotMinimal,
+    Minimal,
+    Refused(u8),
+}
