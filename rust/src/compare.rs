@@ -1,5 +1,9 @@
 //! One question put to the library and to the reference, and the answers compared.
 
+#[cfg(feature = "graph")]
+use crate::answers::{Part, Verdict};
+#[cfg(feature = "list")]
+use crate::answers::{Row, Widths};
 use crate::record::Record;
 use crate::reference::{self, LONGEST_PLAN};
 use crate::sys;
@@ -61,4 +65,71 @@ pub fn encode(record: &Record, before: &[u8]) -> u8 {
         "record {record:?}: {before:02X?} became {memory:02X?}"
     );
     number
+}
+
+/// Finds the useful part of a record; `part` is what it should be if the record has no fault. Gives
+/// the refusal number.
+#[cfg(feature = "graph")]
+pub fn relevant(record: &Record, part: Part) -> u8 {
+    let number = reference::number(&reference::fault(record));
+    let part = if number == 0 { part } else { Part::default() };
+    let answer = sys::relevant(record);
+    assert_eq!(answer, (number, part), "record {record:?}");
+    number
+}
+
+/// Judges a set; `verdict` is what it should be if nothing is refused. Gives the refusal number.
+#[cfg(feature = "graph")]
+pub fn classify(record: &Record, set: u64, verdict: Verdict) -> u8 {
+    let number = match reference::number(&reference::fault(record)) {
+        0 if set & !record.present != 0 => 14,
+        number => number,
+    };
+    let verdict = if number == 0 { verdict as u8 } else { 0 };
+    let answer = sys::classify(record, set);
+    assert_eq!(answer, (number, verdict), "set {set:#x}, record {record:?}");
+    number
+}
+
+/// Lists a record over what the rows held; `rows` is the whole list if the record has no fault.
+/// What the rows hold afterwards is fixed to the last word. Gives the refusal number.
+#[cfg(feature = "list")]
+pub fn list(record: &Record, rows: &[Row], cuts_before: &[u64], sides_before: &[u32]) -> u8 {
+    let number = match reference::number(&reference::fault(record)) {
+        0 if cuts_before.len() != sides_before.len() => 11,
+        0 if rows.len() > cuts_before.len() => 12,
+        number => number,
+    };
+    let count = if number == 0 { rows.len() } else { 0 };
+    let mut expected_cuts = cuts_before.to_vec();
+    let mut expected_sides = sides_before.to_vec();
+    for (place, row) in rows[..count].iter().enumerate() {
+        expected_cuts[place] = row.cut;
+        expected_sides[place] = row.side;
+    }
+
+    let mut cuts = cuts_before.to_vec();
+    let mut sides = sides_before.to_vec();
+    let answer = sys::list(record, &mut cuts, &mut sides);
+    assert_eq!(answer, (number, count), "record {record:?}");
+    assert!(cuts == expected_cuts, "wrong cut rows, record {record:?}");
+    assert!(
+        sides == expected_sides,
+        "wrong side rows, record {record:?}"
+    );
+    number
+}
+
+/// Counts the rows of a list by width.
+#[cfg(feature = "list")]
+pub fn widths(cuts: &[u64]) -> Widths {
+    let mut expected = [0; 65];
+    for cut in cuts {
+        let width = (0..64).filter(|edge| cut >> edge & 1 == 1).count();
+        expected[width] += 1;
+    }
+    let table = sys::widths(cuts);
+    assert_eq!(table, expected, "{} rows", cuts.len());
+    assert_eq!(table.iter().sum::<u64>(), cuts.len() as u64);
+    table
 }

@@ -3,7 +3,7 @@
 use std::cell::RefCell;
 use std::hint::black_box;
 
-/// Guard bytes on each side of what is lent.
+/// Guard bytes, or guard words, on each side of what is lent.
 const GUARD: usize = 16;
 
 /// Bytes in the memory that holds a lent run of bytes.
@@ -57,6 +57,56 @@ impl<T: Copy> Guarded<T> {
             "a call wrote beside a lent value"
         );
         cell.value
+    }
+}
+
+/// A word that rows are made of.
+pub trait Word: Copy + PartialEq {
+    /// A guard word: neighbours differ, and none is zero.
+    fn guard(place: usize) -> Self;
+}
+
+impl Word for u64 {
+    fn guard(place: usize) -> u64 {
+        (place as u64 + 1).wrapping_mul(0x9E37_79B9_7F4A_7C15)
+    }
+}
+
+impl Word for u32 {
+    fn guard(place: usize) -> u32 {
+        (place as u32 + 1).wrapping_mul(0x9E37_79B1)
+    }
+}
+
+/// Lent rows between guard words.
+pub struct Rows<T> {
+    memory: Vec<T>,
+}
+
+impl<T: Word> Rows<T> {
+    pub fn new(content: &[T]) -> Rows<T> {
+        let mut memory = Vec::with_capacity(content.len() + 2 * GUARD);
+        memory.extend((0..GUARD).map(T::guard));
+        memory.extend(content);
+        memory.extend((0..GUARD).map(T::guard));
+        Rows { memory }
+    }
+
+    /// The place to lend.
+    pub fn place(&mut self) -> *mut T {
+        black_box(&mut self.memory).as_mut_ptr().wrapping_add(GUARD)
+    }
+
+    /// The rows after the call; the words around them must be as they were.
+    pub fn take(&mut self) -> &[T] {
+        let memory = black_box(&mut self.memory);
+        let after = memory.len() - GUARD;
+        let whole = |guard: &[T]| (0..GUARD).all(|place| guard[place] == T::guard(place));
+        assert!(
+            whole(&memory[..GUARD]) && whole(&memory[after..]),
+            "a call wrote beside lent rows"
+        );
+        &memory[GUARD..after]
     }
 }
 

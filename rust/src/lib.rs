@@ -1,20 +1,30 @@
-//! Tests of the static library `capi`: what the library answers is held against an independent
-//! decoder, record test and encoder in ordinary Rust.
+//! Tests of the static library `capi`: what the library answers is held against independent
+//! implementations in ordinary Rust.
 //!
 //! - `record`: the plan record, as plain fields
 //! - `lent`: memory lent to a call, with guard bytes on both sides
 //! - `sys`: the library's functions, each call made on guarded memory
-//! - `reference`: the independent implementation, written from the paper
+//! - `reference`: reader, record test and writer, written from the paper
+//! - `answers`: the useful part, a row of a list, a verdict
+//! - `brute`: useful part, verdicts and lists by force, from the ways through a plan
+//! - `sides`: a second lister, by near sides, for larger plans
+//! - `ordinary`: the library's own method in ordinary Rust, to be measured beside it
 //! - `compare`: one question put to both, the answers compared
 //! - `rng`: a small generator with a fixed seed
+//! - `halls`: halls with a name or a pattern
 //! - `plans`: random records, and damage to plans and records
 //! - `tally`: how often each refusal number occurred
 
+pub mod answers;
+pub mod brute;
 pub mod compare;
+pub mod halls;
 pub mod lent;
+pub mod ordinary;
 pub mod plans;
 pub mod record;
 pub mod reference;
 pub mod rng;
+pub mod sides;
 pub mod sys;
 pub mod tally;

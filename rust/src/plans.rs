@@ -46,6 +46,165 @@ fn two_nodes(rng: &mut Rng, nodes: u8) -> (u8, u8) {
     (one, (one + step) % nodes)
 }
 
+/// A random plan of 2 to 7 points and at most `most` cables: parallel cables, gaps in the cable
+/// numbers, spurs, hanging cycles, and plans without a route.
+pub fn small(rng: &mut Rng, most: usize) -> Record {
+    let nodes = 2 + rng.below(6) as u8;
+    let mut ends = match rng.below(8) {
+        // All among the first points; the others hang on nothing.
+        0 => {
+            let used = 2 + rng.below(usize::from(nodes) - 1) as u8;
+            scattered(rng, used, most)
+        }
+        // Two parts that share one point or none.
+        1 | 2 if nodes > 3 => {
+            let low = 2 + rng.below(usize::from(nodes) - 3) as u8;
+            let shared = rng.below(2) as u8;
+            let mut ends = scattered(rng, low, most / 2);
+            let high = scattered(rng, nodes - low + shared, most / 2);
+            let up = |node| node + low - shared;
+            ends.extend(high.into_iter().map(|(one, other)| (up(one), up(other))));
+            ends
+        }
+        // Every point hangs on an earlier one; then a few cables more.
+        3..=5 => {
+            let mut ends: Vec<_> = (1..nodes).map(|node| (hook(rng, node), node)).collect();
+            ends.extend(scattered(rng, nodes, most.saturating_sub(ends.len())));
+            ends
+        }
+        // Each pair at most once.
+        6 => {
+            let mut ends = pairs(nodes);
+            rng.shuffle(&mut ends);
+            ends
+        }
+        _ => scattered(rng, nodes, most),
+    };
+    ends.truncate(most);
+    numbered(rng, nodes, ends)
+}
+
+/// A random plan of many points: a tree, then cables between points not far apart, so that most of
+/// it is useful and the list stays short enough to check.
+pub fn large(rng: &mut Rng) -> Record {
+    let nodes = 8 + rng.below(25) as u8;
+    let near = 1 + rng.below(6);
+    let mut ends: Vec<(u8, u8)> = Vec::new();
+    for node in 1..nodes {
+        let back = 1 + rng.below(near.min(node.into())) as u8;
+        ends.push((node - back, node));
+    }
+    for _ in 0..rng.below(SLOTS - ends.len() + 1).min(rng.below(40)) {
+        let one = rng.below(nodes.into()) as u8;
+        let step = 1 + rng.below(near + 1) as u8;
+        if one + step < nodes {
+            ends.push((one, one + step));
+        }
+    }
+    numbered(rng, nodes, ends)
+}
+
+/// The same plan under other names for its points, with the ends of some cables exchanged.
+pub fn renamed(rng: &mut Rng, record: &Record) -> Record {
+    let mut names: Vec<u8> = (0..record.nodes).collect();
+    rng.shuffle(&mut names);
+    let name = |node: u8| names[usize::from(node)];
+    let mut other = Record::bare(record.nodes, name(record.source), name(record.sink));
+    for edge in (0..SLOTS).filter(|&edge| record.holds(edge)) {
+        let (first, second) = (name(record.first[edge]), name(record.second[edge]));
+        other = match rng.once_in(2) {
+            true => other.with(edge, first, second),
+            false => other.with(edge, second, first),
+        };
+    }
+    other
+}
+
+/// The plan twisted at two points: a part that hangs on the rest by these two alone, with neither
+/// server nor room inside it, is put back the other way round. `None` if the draw finds no part.
+pub fn twisted(rng: &mut Rng, record: &Record) -> Option<Record> {
+    let (one, other) = two_nodes(rng, record.nodes);
+    let fixed = 1u32 << one | 1 << other;
+    let start = rng.below(record.nodes.into()) as u8;
+    let mut inside = 1u32 << start;
+    loop {
+        let mut more = inside;
+        for edge in (0..SLOTS).filter(|&edge| record.holds(edge)) {
+            let ends = 1 << record.first[edge] | 1 << record.second[edge];
+            if ends & inside != 0 {
+                more |= ends & !fixed;
+            }
+        }
+        if more == inside {
+            break;
+        }
+        inside = more;
+    }
+    if inside & (fixed | 1 << record.source | 1 << record.sink) != 0 {
+        return None;
+    }
+    let mut twisted = record.clone();
+    let turn = |node: u8| match node {
+        node if node == one => other,
+        node if node == other => one,
+        node => node,
+    };
+    for edge in (0..SLOTS).filter(|&edge| record.holds(edge)) {
+        let (first, second) = (record.first[edge], record.second[edge]);
+        if (inside >> first | inside >> second) & 1 == 1 {
+            twisted = twisted.with(edge, turn(first), turn(second));
+        }
+    }
+    Some(twisted)
+}
+
+/// Up to `most` cables anywhere among the points, some of them beside the one before.
+fn scattered(rng: &mut Rng, nodes: u8, most: usize) -> Vec<(u8, u8)> {
+    let mut ends = vec![];
+    if nodes >= 2 {
+        let cables = rng.below(most + 1).max(rng.below(most + 1));
+        for _ in 0..cables {
+            ends.push(match ends.last() {
+                Some(&last) if rng.once_in(6) => last,
+                _ => two_nodes(rng, nodes),
+            });
+        }
+    }
+    ends
+}
+
+/// Every pair of points.
+fn pairs(nodes: u8) -> Vec<(u8, u8)> {
+    (0..nodes)
+        .flat_map(|one| (one + 1..nodes).map(move |other| (one, other)))
+        .collect()
+}
+
+/// An earlier point for this one to hang on.
+fn hook(rng: &mut Rng, node: u8) -> u8 {
+    rng.below(node.into()) as u8
+}
+
+/// A plan with these cables in any order, under any numbers and with any names for its points.
+fn numbered(rng: &mut Rng, nodes: u8, mut ends: Vec<(u8, u8)>) -> Record {
+    rng.shuffle(&mut ends);
+    let mut slots: Vec<usize> = match rng.below(3) {
+        0 => (0..ends.len()).collect(),
+        1 => (SLOTS - ends.len()..SLOTS).collect(),
+        _ => (0..SLOTS).collect(),
+    };
+    rng.shuffle(&mut slots);
+    let (source, sink) = match rng.below(3) {
+        0 => two_nodes(rng, nodes),
+        _ => (0, nodes - 1),
+    };
+    let mut record = Record::bare(nodes, source, sink);
+    for ((first, second), slot) in ends.into_iter().zip(slots) {
+        record = record.with(slot, first, second);
+    }
+    renamed(rng, &record)
+}
+
 /// The plan of a record without fault.
 pub fn bytes(record: &Record) -> Vec<u8> {
     reference::encode(record, LONGEST_PLAN).expect("a record without fault")
@@ -220,4 +379,70 @@ pub fn corrupt(rng: &mut Rng, record: &mut Record) {
         7 => record.first[slot] = record.nodes,
         _ => record.second[slot] = record.nodes.wrapping_add(rng.below(3) as u8),
     }
+}
+
+/// Records with one fault or several, each beside the number of its first. Without its fault each
+/// would be a hall with a route.
+pub fn faulty() -> Vec<(u8, Record)> {
+    let good = Record::bare(4, 0, 3)
+        .with(1, 0, 1)
+        .with(2, 0, 2)
+        .with(30, 1, 2)
+        .with(31, 1, 3)
+        .with(62, 2, 3);
+    let mut found = Vec::new();
+    let mut add = |number: u8, change: &dyn Fn(&mut Record)| {
+        let mut record = good.clone();
+        change(&mut record);
+        found.push((number, record));
+    };
+    for nodes in [0, 1, 33, 34, 64, 128, 255] {
+        add(4, &|r| r.nodes = nodes);
+        // 4 before all others.
+        add(4, &|r| (r.nodes, r.source) = (nodes, 255));
+        add(4, &|r| (r.nodes, r.sink) = (nodes, 0));
+        add(4, &|r| (r.nodes, r.first[0]) = (nodes, 1));
+    }
+    for high in [4, 5, 31, 32, 128, 255] {
+        add(5, &|r| r.source = high);
+        add(5, &|r| r.sink = high);
+        // 5 before 6 and the slots.
+        add(5, &|r| (r.source, r.sink) = (high, high));
+        add(5, &|r| (r.sink, r.second[1]) = (high, 0));
+    }
+    for node in 0..4 {
+        add(6, &|r| (r.source, r.sink) = (node, node));
+        add(6, &|r| (r.source, r.sink, r.second[0]) = (node, node, 1));
+    }
+    for slot in 0..SLOTS {
+        let set = |r: &mut Record, present: u64, first: u8, second: u8| {
+            r.present = r.present & !(1 << slot) | present << slot;
+            (r.first[slot], r.second[slot]) = (first, second);
+        };
+        for (number, present, first, second) in [
+            (9, 1, 4, 0),
+            (9, 1, 0, 4),
+            (9, 1, 255, 255),
+            (9, 1, 4, 4),
+            (10, 1, 0, 0),
+            (10, 1, 3, 3),
+            (13, 0, 1, 0),
+            (13, 0, 0, 1),
+            (13, 0, 255, 255),
+        ] {
+            add(number, &|r| set(r, present, first, second));
+            // The lower slot decides.
+            for later in slot + 1..SLOTS {
+                add(number, &|r| {
+                    set(r, present, first, second);
+                    (r.present, r.first[later]) = match number {
+                        9 => (r.present & !(1 << later), 1),
+                        10 => (r.present | 1 << later, 200),
+                        _ => (r.present | 1 << later, 4),
+                    };
+                });
+            }
+        }
+    }
+    found
 }

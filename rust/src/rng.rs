@@ -36,4 +36,11 @@ impl Rng {
     pub fn bytes(&mut self, length: usize) -> Vec<u8> {
         (0..length).map(|_| self.byte()).collect()
     }
+
+    /// The same members in a random order.
+    pub fn shuffle<T>(&mut self, members: &mut [T]) {
+        for last in (1..members.len()).rev() {
+            members.swap(last, self.below(last + 1));
+        }
+    }
 }

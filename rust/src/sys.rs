@@ -1,6 +1,12 @@
 //! The library's functions. Every call is made on guarded memory: what is lent for reading must be
 //! the same afterwards, and nothing beside lent memory may be written.
 
+#[cfg(feature = "graph")]
+use crate::answers::Part;
+#[cfg(feature = "list")]
+use crate::answers::Widths;
+#[cfg(feature = "list")]
+use crate::lent::Rows;
 use crate::lent::{self, Guarded};
 use crate::record::{Record, SLOTS};
 
@@ -39,11 +45,75 @@ mod capi {
             length: usize,
             count: *mut usize,
         ) -> u8;
+
+        #[cfg(feature = "graph")]
+        pub fn cutlist_relevant(
+            nodes: u8,
+            source: u8,
+            sink: u8,
+            present: u64,
+            first: *const [u8; SLOTS],
+            second: *const [u8; SLOTS],
+            node_set: *mut u32,
+            edge_set: *mut u64,
+        ) -> u8;
+
+        #[cfg(feature = "graph")]
+        pub fn cutlist_classify(
+            nodes: u8,
+            source: u8,
+            sink: u8,
+            present: u64,
+            first: *const [u8; SLOTS],
+            second: *const [u8; SLOTS],
+            set: u64,
+            verdict: *mut u8,
+        ) -> u8;
+
+        #[cfg(feature = "list")]
+        pub fn cutlist_list(
+            nodes: u8,
+            source: u8,
+            sink: u8,
+            present: u64,
+            first: *const [u8; SLOTS],
+            second: *const [u8; SLOTS],
+            cuts: *mut u64,
+            cut_rows: usize,
+            sides: *mut u32,
+            side_rows: usize,
+            count: *mut usize,
+        ) -> u8;
+
+        #[cfg(feature = "list")]
+        pub fn cutlist_widths(cuts: *const u64, length: usize, table: *mut [u64; 65]);
     }
 }
 
 /// What out parameters hold before a call, so that one left unwritten shows.
 const STALE: u8 = 0xEE;
+
+/// The ends of a record's cables, lent for reading.
+struct Ends {
+    first: Guarded<[u8; SLOTS]>,
+    second: Guarded<[u8; SLOTS]>,
+}
+
+impl Ends {
+    fn of(record: &Record) -> Ends {
+        Ends {
+            first: Guarded::new(record.first),
+            second: Guarded::new(record.second),
+        }
+    }
+
+    fn assert_unchanged(&mut self, record: &Record) {
+        assert!(
+            self.first.take() == record.first && self.second.take() == record.second,
+            "a call wrote into the record"
+        );
+    }
+}
 
 /// Reads a plan: the refusal number and the record.
 pub fn decode(plan: &[u8]) -> (u8, Record) {
@@ -88,8 +158,7 @@ pub fn decode_before(plan: &[u8], beyond: &[u8]) -> (u8, Record) {
 
 /// Tests a record: the number of its first fault, 0 if it has none.
 pub fn fault(record: &Record) -> u8 {
-    let mut first = Guarded::new(record.first);
-    let mut second = Guarded::new(record.second);
+    let mut ends = Ends::of(record);
 
     // SAFETY: each pointer is valid for its type.
     let refusal = unsafe {
@@ -98,22 +167,18 @@ pub fn fault(record: &Record) -> u8 {
             record.source,
             record.sink,
             record.present,
-            first.place(),
-            second.place(),
+            ends.first.place(),
+            ends.second.place(),
         )
     };
 
-    assert!(
-        first.take() == record.first && second.take() == record.second,
-        "the record test wrote into the record"
-    );
+    ends.assert_unchanged(record);
     refusal
 }
 
 /// Writes a plan into `plan`: the refusal number and the count.
 pub fn encode(record: &Record, plan: &mut [u8]) -> (u8, usize) {
-    let mut first = Guarded::new(record.first);
-    let mut second = Guarded::new(record.second);
+    let mut ends = Ends::of(record);
     let mut count = Guarded::new(usize::from_ne_bytes([STALE; size_of::<usize>()]));
 
     let refusal = lent::write_bytes(plan, |plan, length| {
@@ -124,8 +189,8 @@ pub fn encode(record: &Record, plan: &mut [u8]) -> (u8, usize) {
                 record.source,
                 record.sink,
                 record.present,
-                first.place(),
-                second.place(),
+                ends.first.place(),
+                ends.second.place(),
                 plan,
                 length,
                 count.place(),
@@ -133,9 +198,131 @@ pub fn encode(record: &Record, plan: &mut [u8]) -> (u8, usize) {
         }
     });
 
-    assert!(
-        first.take() == record.first && second.take() == record.second,
-        "the writer wrote into the record"
-    );
+    ends.assert_unchanged(record);
     (refusal, count.take())
+}
+
+/// The useful part: the refusal number and both sets.
+#[cfg(feature = "graph")]
+pub fn relevant(record: &Record) -> (u8, Part) {
+    let mut ends = Ends::of(record);
+    let mut nodes = Guarded::new(u32::from_ne_bytes([STALE; 4]));
+    let mut edges = Guarded::new(u64::from_ne_bytes([STALE; 8]));
+
+    // SAFETY: each pointer is valid for its type, and no two overlap.
+    let refusal = unsafe {
+        capi::cutlist_relevant(
+            record.nodes,
+            record.source,
+            record.sink,
+            record.present,
+            ends.first.place(),
+            ends.second.place(),
+            nodes.place(),
+            edges.place(),
+        )
+    };
+
+    ends.assert_unchanged(record);
+    let part = Part {
+        nodes: nodes.take(),
+        edges: edges.take(),
+    };
+    (refusal, part)
+}
+
+/// Judges a set of cables: the refusal number and the verdict's number, 0 for none.
+#[cfg(feature = "graph")]
+pub fn classify(record: &Record, set: u64) -> (u8, u8) {
+    let mut ends = Ends::of(record);
+    let mut verdict = Guarded::new(STALE);
+
+    // SAFETY: each pointer is valid for its type, and no two overlap.
+    let refusal = unsafe {
+        capi::cutlist_classify(
+            record.nodes,
+            record.source,
+            record.sink,
+            record.present,
+            ends.first.place(),
+            ends.second.place(),
+            set,
+            verdict.place(),
+        )
+    };
+
+    ends.assert_unchanged(record);
+    (refusal, verdict.take())
+}
+
+/// Lists the minimal cuts into lent rows: the refusal number and the count.
+#[cfg(feature = "list")]
+pub fn list(record: &Record, cuts: &mut [u64], sides: &mut [u32]) -> (u8, usize) {
+    let mut ends = Ends::of(record);
+    let mut lent_cuts = Rows::new(cuts);
+    let mut lent_sides = Rows::new(sides);
+    let mut count = Guarded::new(usize::from_ne_bytes([STALE; size_of::<usize>()]));
+
+    // SAFETY: each pointer is valid for its type and length, and no two overlap.
+    let refusal = unsafe {
+        capi::cutlist_list(
+            record.nodes,
+            record.source,
+            record.sink,
+            record.present,
+            ends.first.place(),
+            ends.second.place(),
+            lent_cuts.place(),
+            cuts.len(),
+            lent_sides.place(),
+            sides.len(),
+            count.place(),
+        )
+    };
+
+    ends.assert_unchanged(record);
+    cuts.copy_from_slice(lent_cuts.take());
+    sides.copy_from_slice(lent_sides.take());
+    (refusal, count.take())
+}
+
+/// The same straight on the rows, with nothing around the call: for measuring.
+#[cfg(feature = "list")]
+pub fn list_bare(record: &Record, cuts: &mut [u64], sides: &mut [u32]) -> (u8, usize) {
+    let mut count = 0;
+
+    // SAFETY: each pointer is valid for its type and length, and no two overlap.
+    let refusal = unsafe {
+        capi::cutlist_list(
+            record.nodes,
+            record.source,
+            record.sink,
+            record.present,
+            &record.first,
+            &record.second,
+            cuts.as_mut_ptr(),
+            cuts.len(),
+            sides.as_mut_ptr(),
+            sides.len(),
+            &mut count,
+        )
+    };
+
+    (refusal, count)
+}
+
+/// The width table of a list.
+#[cfg(feature = "list")]
+pub fn widths(cuts: &[u64]) -> Widths {
+    let mut lent_cuts = Rows::new(cuts);
+    let mut table = Guarded::new([u64::from_ne_bytes([STALE; 8]); 65]);
+
+    // SAFETY: each pointer is valid for its type and length, and no two overlap.
+    unsafe { capi::cutlist_widths(lent_cuts.place(), cuts.len(), table.place()) };
+
+    assert!(
+        lent_cuts.take() == cuts,
+        "the width table's call wrote into the list"
+    );
+    table.take()
 }

@@ -5,11 +5,13 @@
 --   Written N lent r n after     writing N into a buffer that held `lent` gives the refusal r and the count n, and leaves `after` in it
 --   Found N r n e        finding the relevant part of N gives the refusal r, the nodes n and the edges e
 --   Judged N c r v       judging the set c in N gives the refusal r and the verdict v, by its number
+--   Listing N cuts sides r n cuts′ sides′     listing N into rows that held `cuts` and `sides` gives the refusal r and the count n, and leaves cuts′ and sides′ in them
 use mathlib.Core.List.{List}
 use mathlib.Core.Path.{_≡_}
 use Prim.Native.Nat.{ℕ}
 use Rattle.network.specs.declared.Network.{Network}
 use Rattle.network.specs.Format.{decodeOf, encodedBy, bytesAfter}
+use Rattle.listing.specs.List.{listedBy, cutRowsAfter, sideRowsAfter}
 use Rattle.reach.specs.Answers.{relevantOf, verdictOf, refusalNumber, verdictNumber}
 
 abbrev pub assembled : ℕ → ℕ → ℕ → ℕ → List ℕ → List ℕ → Network
@@ -39,3 +41,9 @@ pub record Found (N : Network) (r n e : ℕ) : Type 0 where
 pub record Judged (N : Network) (c r v : ℕ) : Type 0 where
   pub refusal : r ≡ refusalNumber (verdictOf N c)
   pub verdict : v ≡ verdictNumber (verdictOf N c)
+
+pub record Listing (N : Network) (cuts sides : List ℕ) (r n : ℕ) (cuts′ sides′ : List ℕ) : Type 0 where
+  pub refusal : r ≡ listedBy N cuts sides .refusal
+  pub count : n ≡ listedBy N cuts sides .count
+  pub cut-rows : cuts′ ≡ cutRowsAfter N cuts sides
+  pub side-rows : sides′ ≡ sideRowsAfter N cuts sides

@@ -6,7 +6,8 @@ use bitset::EdgeSet;
 use network::Network;
 ghost use mathlib.Core.Path.{_≡_};
 ghost use Rattle.network.specs.Record.{faultOf};
-ghost use Rattle.capi.specs.Fields.{assembled, Read, Written, Found, Judged};
+ghost use Rattle.rows.specs.Widths.{widthsOf};
+ghost use Rattle.capi.specs.Fields.{assembled, Read, Written, Found, Judged, Listing};
 
 // Reads a plan. Gives the refusal's number, 0 if there is none, and fills in the record, all zero on refusal.
 #[no_mangle]
@@ -136,4 +137,39 @@ pub extern "C" fn cutlist_classify(
     );
     *verdict = reach::verdict_number(judged);
     reach::refusal_number(judged)
+}
+
+// Lists the minimal cuts, rising, each beside its near side. Gives the refusal's number, 0 if there is none, and the count of rows listed,
+// 0 on refusal, when no row changes.
+#[no_mangle]
+pub extern "C" fn cutlist_list(
+    nodes: u8,
+    source: u8,
+    sink: u8,
+    present: u64,
+    first: &[u8; 64],
+    second: &[u8; 64],
+    cuts: &mut [u64],
+    sides: &mut [u32],
+    count: &mut usize,
+) -> u8
+    ensures { λ r. ⌜ Listing (assembled nodes source sink present (now (first .entry)) (now (second .entry))) (now (cuts .entry)) (now (sides .entry))
+        r (now (count .exit)) (now (cuts .exit)) (now (sides .exit)) ⌝ }
+{
+    let listed = listing::list(
+        assemble(nodes, source, sink, present, first, second),
+        cuts,
+        sides,
+    );
+    *count = listed.count;
+    listed.refusal
+}
+
+// Counts the rows of a list by width: the number of rows with so many cables, for each width from 0 to 64.
+#[no_mangle]
+pub extern "C" fn cutlist_widths(cuts: &[u64], table: &mut [u64; 65])
+    ensures { λ _. ⌜ now (table .exit) ≡ widthsOf (now (cuts .entry)) ⌝ }
+{
+    let counts = rows::width_table(cuts);
+    *table = counts;
 }

@@ -35,7 +35,7 @@ T-xor false true = (λ t. inr (tt, λ k. k), λ c. tt)
 T-xor false false = (λ t. absurd t, λ c. elim c [ inl k ↦ k .0 | inr k ↦ k .0 ])
 
 -- Two sets are equal if each number is a member of both or of neither.
-same-set : {s t : ℕ} → ((k : ℕ) → (k ∈ s) ↔ (k ∈ t)) → s ≡ t
+pub same-set : {s t : ℕ} → ((k : ℕ) → (k ∈ s) ↔ (k ∈ t)) → s ≡ t
 same-set {s} {t} same = ⊆-antisym s t (λ k. same k .0) (λ k. same k .1)
 
 module _ (N : Network) (S : Sound N) where

@@ -37,8 +37,8 @@ T-then false = T-and false
 pub T-eqb : (m n : ℕ) → T (eqb m n) ↔ (m ≡ n)
 T-eqb m n = (eqb→eq m n, λ e. rw e (eqb-refl n))
 
--- A test of every number of a list holds exactly if it holds of each.
-pub T-every : (f : ℕ → Bool) (l : List ℕ) → T (every f l) ↔ ((k : ℕ) → List·Memᴰ k l → T (f k))
+-- A test of every member of a list holds exactly if it holds of each.
+pub T-every : {A : Type 0} (f : A → Bool) (l : List A) → T (every f l) ↔ ((k : A) → List·Memᴰ k l → T (f k))
 unfolding every
 T-every f [] = (λ t k m. absurd (List·Memᴰ·not-nil m), λ all. tt)
 T-every f (j ∷ l) = (

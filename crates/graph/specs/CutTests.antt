@@ -1,7 +1,7 @@
 -- Cuts, as they are computed: one reachable set for a cut, and one more for each member of a mincut.
 --
 --   severed N c          without the edges of c the source does not reach the sink
---   every f l            the test f holds of every number of l
+--   every f l            the test f holds of every member of l
 --   cutTest N c          whether c is a cut
 --   allNeeded N c        no member of c can be dropped: without the others alone the source reaches the sink
 --   mincutTest N c       whether c is a mincut
@@ -19,7 +19,7 @@ use Rattle.graph.specs.Reach.{reachOf}
 unfoldable pub severed : Network → ℕ → Bool
 severed N c = not (has (reachOf (without N c) (2 ^ N .source)) (N .sink))
 
-unfoldable pub every : (ℕ → Bool) → List ℕ → Bool
+unfoldable pub every : {A : Type 0} → (A → Bool) → List A → Bool
 every f [] = true
 every f (k ∷ l) = elim (f k) [ true ↦ every f l | false ↦ false ]
 

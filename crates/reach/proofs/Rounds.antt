@@ -62,6 +62,7 @@ module _ (N : Network) (s : ℕ) where
 -- ---- the rounds
 
 module _ (N : Network) (S : Sound N) (h : ℕ) (l : h ⊆ N .present .0) where
+  -- The edges of h keep the bounds.
   bounds : Bounded (only N h)
   bounds = bounded-only N (S .bounded) h l
 

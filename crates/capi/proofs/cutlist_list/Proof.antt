@@ -1,0 +1,38 @@
+-- `cutlist_list` meets its contract, by those of `assemble` and the list call.
+-- Assumes nothing.
+use mathlib.Core.Path.{ap, _∙_}
+use Rattle.network.specs.declared.Network.{Network}
+use Rattle.listing.specs.declared.Listed.{Listed}
+use Rattle.listing.specs.List.{listedBy, cutRowsAfter, sideRowsAfter}
+use borrow.Author.Needs.{needs}
+use Rattle.capi.proofs.cutlist_list.Statement.{statement}
+use Rattle.capi.proofs.cutlist_list.Tie as tie
+
+assemble-requires : tie.Need-assemble-requires
+assemble-requires c κs = search needs
+
+list-requires : tie.Need-list-requires
+list-requires c κs = search needs
+
+same-length : tie.Need-same-length
+same-length c = search needs
+
+same-length-2 : tie.Need-same-length-2
+same-length-2 c = search needs
+
+returns : tie.Need-returns
+returns c =
+    let e = c .before .before .before .before .list .ensures in
+    let cuts = c .before .before .before .before .before .before .before .before .before .before .args .cuts .now in
+    let sides = c .before .before .before .before .before .before .before .before .before .before .args .sides .now in
+    let N = c .before .before .before .before .before .before .before .assemble .ensures in
+    record {
+      refusal = ap (λ (d : Listed). d .refusal) (e .0) ∙ ap (λ (M : Network). listedBy M cuts sides .refusal) N;
+      count = ap (λ (d : Listed). d .count) (e .0) ∙ ap (λ (M : Network). listedBy M cuts sides .count) N;
+      cut-rows = e .1 ∙ ap (λ (M : Network). cutRowsAfter M cuts sides) N;
+      side-rows = e .2 ∙ ap (λ (M : Network). sideRowsAfter M cuts sides) N;
+    }
+
+pub cutlist-list-spec : {M : Type 1} → statement M
+cutlist-list-spec =
+    tie.close (tie.spec assemble-requires list-requires same-length same-length-2 returns)

@@ -1,0 +1,3 @@
+-- The definitions that the contracts of `cuts` cite.
+pub mod Enumeration
+pub mod Lists

@@ -1,0 +1,112 @@
+-- What the list call has to answer and to leave, from what its steps do: a refusal and the rows untouched, or the rows filled and sorted.
+-- Assumes an accepted record where rows are enumerated.
+use mathlib.Core.Path.{_≡_, refl, sym, ap, _∙_}
+use mathlib.Core.List.{List}
+use Prim.Native.Nat.{ℕ, zero, suc, _-_, _≤_, _<_}
+use native.Mathlib.Omega.{arith}
+use borrow.Rule.Slice.PartMut.{putMid}
+use lib.ListN.{length, take, length-map}
+use lib.Seq.{sets}
+use Rattle.rows.specs.Sorted.{Sorted, SortedIfPaired}
+use Rattle.network.specs.declared.Network.{Network}
+use Rattle.network.specs.Record.{faultOf, Stored}
+use Rattle.network.specs.Format.{unlessRefused}
+use Rattle.graph.proofs.Sound.{Sound, accepted-sound}
+use Rattle.cuts.specs.Enumeration.{Row, cutsOf, sidesOf, rows}
+use Rattle.listing.specs.declared.Listed.{Listed}
+use Rattle.listing.specs.List.{mincuts, sourceSides, onto, listRefusal, listAnswer, listedBy, cutRowsAfter, sideRowsAfter}
+use Rattle.listing.proofs.Rows.{rows-paired, mincuts-count, sorted-mincuts, sorted-sides}
+use Rattle.listing.proofs.Onto.{onto-first, onto-back}
+use Rattle.listing.proofs.Refusals.{refusal-faulty, refusal-unpaired, refusal-outnumbered, refusal-none}
+
+-- The answer and the rows left are those of the call.
+abbrev pub Answered : Network → List ℕ → List ℕ → Listed → List ℕ → List ℕ → Type 0
+Answered N cuts sides r cuts′ sides′ =
+    (r ≡ listedBy N cuts sides) × (cuts′ ≡ cutRowsAfter N cuts sides) × (sides′ ≡ sideRowsAfter N cuts sides)
+
+-- The answer and the rows left, by the refusal.
+answered-by : (N : Network) (cuts sides : List ℕ) (r : ℕ) → listRefusal N cuts sides ≡ r
+    → Answered N cuts sides (listAnswer r (length (mincuts N)))
+    (unlessRefused r (onto (mincuts N) cuts) cuts)
+    (unlessRefused r (onto (sourceSides N) sides) sides)
+unfolding listedBy cutRowsAfter sideRowsAfter
+answered-by N cuts sides r e = (
+  ap (λ (x : ℕ). listAnswer x (length (mincuts N))) (sym e),
+  ap (λ (x : ℕ). unlessRefused x (onto (mincuts N) cuts) cuts) (sym e),
+  ap (λ (x : ℕ). unlessRefused x (onto (sourceSides N) sides) sides) (sym e),
+)
+
+-- A refusal leaves the rows as they were.
+refused : (N : Network) (cuts sides : List ℕ) (r : ℕ) → listRefusal N cuts sides ≡ r → 0 < r
+    → Answered N cuts sides (record { refusal = r; count = 0 }) cuts sides
+refused N cuts sides zero e h = absurd (omega arith)
+refused N cuts sides (suc r) e h = answered-by N cuts sides (suc r) e
+
+-- Otherwise the complete list is written onto the rows.
+completed : (N : Network) (cuts sides : List ℕ) → listRefusal N cuts sides ≡ 0
+    → Answered N cuts sides (record { refusal = 0; count = length (mincuts N) }) (onto (mincuts N) cuts) (onto (sourceSides N) sides)
+completed N cuts sides e = answered-by N cuts sides 0 e
+
+-- The answer's refusal is the call's.
+answer-refusal : (N : Network) (cuts sides : List ℕ) → listedBy N cuts sides .refusal ≡ listRefusal N cuts sides
+unfolding listedBy
+answer-refusal N cuts sides = go (listRefusal N cuts sides)
+  where
+    go : (r : ℕ) → listAnswer r (length (mincuts N)) .refusal ≡ r
+    go zero = refl
+    go (suc r) = refl
+
+-- A call that gave the refusal 0 was made on a sound network, and has written the complete list onto the rows.
+pub complete-call : (N : Network) → Stored N → (cuts sides : List ℕ) → listedBy N cuts sides .refusal ≡ 0
+    → Sound N
+    × Answered N cuts sides (record { refusal = 0; count = length (mincuts N) }) (onto (mincuts N) cuts) (onto (sourceSides N) sides)
+complete-call N stored cuts sides e =
+    let none : listRefusal N cuts sides ≡ 0 = sym (answer-refusal N cuts sides) ∙ e in
+    (accepted-sound N stored (refusal-none N cuts sides .0 none .0), completed N cuts sides none)
+
+-- ---- the steps of the call
+
+module _ (N : Network) (cuts sides : List ℕ) where
+  -- A record with a fault is refused with it.
+  pub answered-faulty : (r : ℕ) → r ≡ faultOf N → (r ≡ 0 → ⊥) → Answered N cuts sides (record { refusal = r; count = 0 }) cuts sides
+  answered-faulty r e n = refused N cuts sides r (refusal-faulty N cuts sides (λ z. n (e ∙ z)) ∙ sym e) (omega arith)
+
+  -- Rows that differ in number are refused with 11.
+  pub answered-unpaired : faultOf N ≡ 0 → (length cuts ≡ length sides → ⊥) → Answered N cuts sides (record { refusal = 11; count = 0 }) cuts sides
+  answered-unpaired ok differ = refused N cuts sides 11 (refusal-unpaired N cuts sides .1 (ok, differ)) (omega arith)
+
+  module _ (stored : Stored N) (ok : faultOf N ≡ 0) (paired : length cuts ≡ length sides) where
+    -- The network is sound.
+    sound : Sound N
+    sound = accepted-sound N stored ok
+
+    -- Fewer rows than the enumeration has are refused with 12.
+    pub answered-outnumbered : length cuts < length (rows N) → Answered N cuts sides (record { refusal = 12; count = 0 }) cuts sides
+    answered-outnumbered h = refused N cuts sides 12 (refusal-outnumbered N cuts sides .1 (ok, paired, rw (mincuts-count N sound) h)) (omega arith)
+
+    -- Otherwise the rows of the enumeration are stored from the first row on, and the first n are sorted in place.
+    pub answered-complete : (n : ℕ) → n ≡ length (rows N) → n ≤ length cuts
+        → (filled filled′ sorted sorted′ : List ℕ) → filled ≡ sets cuts 0 (cutsOf (rows N)) → filled′ ≡ sets sides 0 (sidesOf (rows N))
+        → SortedIfPaired (take (n - 0) filled) (take (n - 0) filled′) sorted sorted′
+        → Answered N cuts sides (record { refusal = 0; count = n }) (putMid 0 (n - 0) filled sorted) (putMid 0 (n - 0) filled′ sorted′)
+    answered-complete n count fits filled filled′ sorted sorted′ p q s =
+        let l = rows N in
+        let count-cuts : n ≡ length (cutsOf l) = count ∙ sym (length-map l (λ (r : Row). r .0)) in
+        let count-sides : n ≡ length (sidesOf l) = count-cuts ∙ rows-paired l in
+        let fits-cuts : length (cutsOf l) ≤ length cuts = rw (← count-cuts) fits in
+        let fits-sides : length (sidesOf l) ≤ length sides = rw (← count-sides, ← paired) fits in
+        let all : SortedIfPaired (cutsOf l) (sidesOf l) sorted sorted′ =
+        rw (p, q, onto-first (cutsOf l) cuts fits-cuts n count-cuts, onto-first (sidesOf l) sides fits-sides n count-sides) at s in
+        let done : Sorted (cutsOf l) (sidesOf l) sorted sorted′ = all .paired (rows-paired l) in
+        let whole = completed N cuts sides (refusal-none N cuts sides .1 (ok, paired, rw (mincuts-count N sound, ← count) fits)) in
+        rw (
+          p,
+          q,
+          onto-back (cutsOf l) cuts fits-cuts n count-cuts sorted (done .cuts-length),
+          onto-back (sidesOf l) sides fits-sides n count-sides sorted′ (done .sides-length),
+          sorted-mincuts N sound sorted sorted′ done,
+          sorted-sides N sound sorted sorted′ done,
+          count,
+          ← mincuts-count N sound,
+        )
+        whole

@@ -1,0 +1,16 @@
+-- The list, in reading order: what the complete list is, the enumeration as the code makes it, the call, the demands, the halls.
+pub mod Mincuts
+pub mod Rows
+pub mod Operations
+pub mod Filling
+pub mod Spread
+pub mod Putting
+pub mod Halves
+pub mod First
+pub mod Onto
+pub mod Refusals
+pub mod Call
+pub mod Given
+pub mod DemandTwo
+pub mod DemandThree
+pub mod Halls

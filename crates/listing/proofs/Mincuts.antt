@@ -1,0 +1,89 @@
+-- The computed list of mincuts is the complete list.
+-- Assumes that the edges have numbers below 64 and ends below the node count; where it says so, a sound network.
+use mathlib.Core.Path.{_≡_, refl}
+use mathlib.Core.Bool.{Bool, true, false}
+use mathlib.Core.List.{List, [], _∷_, Pairwise·nil, Pairwise·cons, pairwise-cons, pairwise-singleton, List·Mem, List·Memᴰ, List·Memᴰ·head, List·Memᴰ·tail, List·Memᴰ·not-nil, List·Memᴰ·cases-cons, List·Memᴰ·eq-of-singleton}
+use mathlib.Core.Logic.{inl, inr, _↔_, Iff·trans, Iff·symm, ∥∥₁-elim}
+use Prim.Native.Nat.{ℕ, _^_, _<_}
+use native.Mathlib.Bridge.{le-prop}
+use native.Mathlib.Nat.{lt-of-le-of-lt}
+use denote.Floats.{passes}
+use lib.Dec.{T}
+use Rattle.bitset.specs.Members.{subsets}
+use Rattle.bitset.specs.Rising.{Rising}
+use Rattle.bitset.proofs.Subsets.{subset-le, mem-subsets, subsets-rising}
+use Rattle.network.specs.declared.Network.{Network}
+use Rattle.graph.specs.Paths.{Minpath}
+use Rattle.graph.specs.Cuts.{Mincut}
+use Rattle.graph.specs.CutTests.{mincutTest}
+use Rattle.graph.specs.Relevant.{sourceSideOf}
+use Rattle.graph.proofs.Reach.{Bounded}
+use Rattle.graph.proofs.Cuts.{mincutTest-iff, mincut-none}
+use Rattle.graph.proofs.Sound.{Sound}
+use Rattle.graph.proofs.Correspondence.{side-of-mincut, side-none}
+use Rattle.cuts.specs.Lists.{Lists}
+use Rattle.cuts.proofs.Lists.{lists-unique}
+use Rattle.listing.specs.List.{passing, mincuts, sourceSides}
+
+-- ---- the numbers that pass a test
+
+module _ (f : ℕ → Bool) where
+  -- A number is among those that pass exactly if it is in the list and passes.
+  mem-passing : (l : List ℕ) (c : ℕ) → List·Memᴰ c (passing f l) ↔ (List·Memᴰ c l × T (f c))
+  unfolding passing
+  mem-passing [] c = (λ m. absurd (List·Memᴰ·not-nil m), λ p. absurd (List·Memᴰ·not-nil (p .0)))
+  mem-passing (x ∷ l) c = go (f x) refl (mem-passing l c)
+    where
+      go : (b : Bool) → f x ≡ b → List·Memᴰ c (passing f l) ↔ (List·Memᴰ c l × T (f c))
+          → List·Memᴰ c (elim b [ true ↦ x ∷ passing f l | false ↦ passing f l ]) ↔ (List·Memᴰ c (x ∷ l) × T (f c))
+      go true e rest = (
+        λ m. elim (List·Memᴰ·cases-cons m) [
+          | inl q ↦ (List·Memᴰ·head q, rw q (passes (f x) e))
+          | inr n ↦ let p = rest .0 n in (List·Memᴰ·tail (p .0), p .1)
+        ],
+        λ p. elim (List·Memᴰ·cases-cons (p .0)) [ inl q ↦ List·Memᴰ·head q | inr n ↦ List·Memᴰ·tail (rest .1 (n, p .1)) ],
+      )
+      go false e rest = (
+        λ m. let p = rest .0 m in (List·Memᴰ·tail (p .0), p .1),
+        λ p. elim (List·Memᴰ·cases-cons (p .0)) [ inl q ↦ absurd (rw (q, e) at (p .1)) | inr n ↦ rest .1 (n, p .1) ],
+      )
+
+  -- Of a rising list, the numbers that pass rise.
+  passing-rising : (l : List ℕ) → Rising l → Rising (passing f l)
+  unfolding passing
+  passing-rising [] r = Pairwise·nil
+  passing-rising (x ∷ l) r = go (f x) (passing-rising l (pairwise-cons .0 r .1))
+    where
+      above : (y : ℕ) → List·Mem y (passing f l) → x < y
+      above y m = ∥∥₁-elim m le-prop (λ n. pairwise-cons .0 r .0 y ∣ mem-passing l y .0 n .0 ∣₁)
+
+      go : (b : Bool) → Rising (passing f l) → Rising (elim b [ true ↦ x ∷ passing f l | false ↦ passing f l ])
+      go true rest = Pairwise·cons above rest
+      go false rest = rest
+
+-- ---- the complete list
+
+-- The computed list rises, and its members are exactly the mincuts.
+pub mincuts-lists : (N : Network) → Bounded N → Lists N (mincuts N)
+unfolding mincuts
+mincuts-lists N B =
+    let present : ℕ = N .present .0 in
+    let test = mincutTest-iff N B in record {
+      rising = passing-rising (mincutTest N) (subsets 64 present) (subsets-rising 64 present);
+      members = λ c. (
+        λ m. test c .0 (mem-passing (mincutTest N) (subsets 64 present) c .0 m .1),
+        λ k.
+            let below : c < 2 ^ 64 = lt-of-le-of-lt (subset-le c present (k .cut .present)) (B .edges) in
+            mem-passing (mincutTest N) (subsets 64 present) c .1 (mem-subsets 64 present c .1 (k .cut .present, below), test c .1 k),
+      );
+    }
+
+-- Without a minpath the list is the empty cut beside the source alone.
+pub mincuts-none : (N : Network) → Sound N → ((r : ℕ) → Minpath N r → ⊥) → (mincuts N ≡ 0 ∷ []) × (sourceSides N ≡ 2 ^ N .source ∷ [])
+mincuts-none N S none =
+    let empty : Mincut N 0 = mincut-none N none 0 .1 refl in
+    let one : mincuts N ≡ 0 ∷ [] = lists-unique N (mincuts N) (0 ∷ []) (mincuts-lists N (S .bounded)) (record {
+      rising = pairwise-singleton _<_ 0;
+      members = λ c. Iff·trans (List·Memᴰ·eq-of-singleton, List·Memᴰ·head) (Iff·symm (mincut-none N none c));
+    }) in
+    (one, rw (one, side-none N S none (sourceSideOf N 0) .0 (side-of-mincut N S 0 empty .0)))

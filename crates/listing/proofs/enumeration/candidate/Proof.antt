@@ -1,0 +1,17 @@
+-- `enumeration::candidate` meets its contract: the common members are the intersection.
+-- Assumes nothing.
+use mathlib.Core.Path.{ap}
+use lib.Count.{trailingZeros}
+use Rattle.listing.proofs.Operations.{intersection-and}
+use borrow.Author.Needs.{needs}
+use Rattle.listing.proofs.enumeration.candidate.Statement.{statement}
+use Rattle.listing.proofs.enumeration.candidate.Tie as tie
+
+intersection-requires : tie.Need-intersection-requires
+intersection-requires c κs = search needs
+
+returns : tie.Need-returns
+returns c = ap (trailingZeros 32) (intersection-and _ _ _ (c .before .intersection .ensures))
+
+pub candidate-spec : {M : Type 1} → statement M
+candidate-spec = tie.close (tie.spec intersection-requires returns)

@@ -1,0 +1,77 @@
+-- The complete list of the mincuts of a network, and what the list call answers and leaves in the lent rows.
+--
+--   passing f l              the numbers of l that pass the test f, in their order
+--   mincuts N                the mincuts of N, rising: the complete list
+--   sourceSides N            their source sides, each at the place of its mincut
+--   onto l lent              lent rows after l was written onto the first of them
+--   listRefusal N cuts sides     the call's refusal for a network and lent rows, 0 if there is none
+--   listedBy N cuts sides        its answer
+--   cutRowsAfter N cuts sides, sideRowsAfter N cuts sides     the lent rows afterwards
+--   CompleteList N n cuts sides  the first n rows are the mincuts of N, rising, each beside its source side (demand 2)
+--   SameList n cuts m cuts′      n rows and m rows have equal cuts at equal places, and are equally many (the paper's equal lists)
+use mathlib.Core.Bool.{Bool, true, false, not}
+use mathlib.Core.List.{List, [], _∷_, _++_, map}
+use mathlib.Core.Logic.{_↔_}
+use mathlib.Core.Path.{_≡_}
+use Prim.Native.Nat.{ℕ, zero, suc, _<_}
+use lib.Dec.{T, ltb, eqb}
+use lib.ListN.{length, drop, getD}
+use Rattle.bitset.specs.Members.{has, subsets}
+use Rattle.network.specs.declared.Network.{Network}
+use Rattle.network.specs.Record.{_when_, _then_, faultOf}
+use Rattle.network.specs.Format.{unlessRefused}
+use Rattle.graph.specs.Cuts.{Mincut, OnSourceSide}
+use Rattle.graph.specs.CutTests.{mincutTest}
+use Rattle.graph.specs.Relevant.{sourceSideOf}
+use Rattle.listing.specs.declared.Listed.{Listed}
+
+-- ---- the complete list
+
+unfoldable pub passing : (ℕ → Bool) → List ℕ → List ℕ
+passing f [] = []
+passing f (x ∷ l) = elim (f x) [ true ↦ x ∷ passing f l | false ↦ passing f l ]
+
+unfoldable pub mincuts : Network → List ℕ
+mincuts N = passing (mincutTest N) (subsets 64 (N .present .0))
+
+abbrev pub sourceSides : Network → List ℕ
+sourceSides N = map (sourceSideOf N) (mincuts N)
+
+-- ---- the call
+
+abbrev pub onto : List ℕ → List ℕ → List ℕ
+onto l lent = l ++ drop (length l) lent
+
+-- The record's first fault, then 11: cut rows and side rows differ in number; 12: more minimal cuts than rows lent
+unfoldable pub listRefusal : Network → List ℕ → List ℕ → ℕ
+listRefusal N cuts sides =
+    faultOf N
+    then 11 when not (eqb (length cuts) (length sides))
+    then 12 when ltb (length cuts) (length (mincuts N))
+
+-- The answer from the refusal and the count of rows.
+abbrev pub listAnswer : ℕ → ℕ → Listed
+listAnswer zero n = record { refusal = 0; count = n }
+listAnswer (suc r) n = record { refusal = suc r; count = 0 }
+
+unfoldable pub listedBy : Network → List ℕ → List ℕ → Listed
+listedBy N cuts sides = listAnswer (listRefusal N cuts sides) (length (mincuts N))
+
+-- The complete list, and past it what the rows held; on refusal all that they held.
+unfoldable pub cutRowsAfter : Network → List ℕ → List ℕ → List ℕ
+cutRowsAfter N cuts sides = unlessRefused (listRefusal N cuts sides) (onto (mincuts N) cuts) cuts
+
+unfoldable pub sideRowsAfter : Network → List ℕ → List ℕ → List ℕ
+sideRowsAfter N cuts sides = unlessRefused (listRefusal N cuts sides) (onto (sourceSides N) sides) sides
+
+-- ---- what a list is
+
+pub record CompleteList (N : Network) (n : ℕ) (cuts sides : List ℕ) : Type 0 where
+  pub rising : (i j : ℕ) → i < j → j < n → getD cuts i 0 < getD cuts j 0
+  pub members : (c : ℕ) → ((i : ℕ) × (i < n) × (getD cuts i 0 ≡ c)) ↔ Mincut N c
+  pub beside : (i v : ℕ) → i < n → T (has (getD sides i 0) v) ↔ OnSourceSide N (getD cuts i 0) v
+
+-- Sides and later rows are not compared.
+pub record SameList (n : ℕ) (cuts : List ℕ) (m : ℕ) (cuts′ : List ℕ) : Type 0 where
+  pub counts : n ≡ m
+  pub rows : (i : ℕ) → i < n → getD cuts i 0 ≡ getD cuts′ i 0

@@ -1,0 +1,11 @@
+// The complete list of a network's mincuts, rising, each beside its source side, in lent rows.
+mod enumeration;
+mod lister;
+
+pub use lister::list;
+
+// The list call's answer: the refusal's number, 0 if there is none, beside the count of rows listed, 0 on refusal.
+pub struct Listed {
+    pub refusal: u8,
+    pub count: usize,
+}

@@ -1,0 +1,4 @@
+-- The definitions that the contracts of `text` cite.
+pub mod Ascii
+pub mod Text
+pub mod Written

@@ -1,0 +1,61 @@
+-- The printed lines of a list, as lists of bytes.
+--
+--   members w s      the members of s below w, rising
+--   decimal n        the decimal digits of n, without leading zeros
+--   numbers l        the numbers of l in decimal with single spaces between them; a hyphen if there are none
+--   lineOf c s       the line of the cut c and its near side s: cables, space, bar, space, points
+--   countLine n      the line that says how many cuts there are: the word cuts and n
+--   refusalLine n    the line that says why there is no list: the word refused and n
+--   maxLine          how long a line can be
+use mathlib.Core.Bool.{true, false}
+use mathlib.Core.List.{List, [], _∷_, _++_}
+use Prim.Native.Nat.{ℕ, zero, suc, _+_, _/_, _%_}
+use Prim.Native.Char.{code}
+use lib.Dec.{ltb}
+use Rattle.bitset.specs.Members.{has}
+use Rattle.text.specs.Ascii.{bytes}
+
+-- The largest comes last.
+unfoldable pub members : ℕ → ℕ → List ℕ
+members zero s = []
+members (suc w) s = elim (has s w) [ true ↦ members w s ++ w ∷ [] | false ↦ members w s ]
+
+-- The byte of the digit d.
+abbrev pub digit : ℕ → ℕ
+digit d = code "0" + d
+
+-- The last d digits of n, without leading zeros.
+unfoldable pub digits : ℕ → ℕ → List ℕ
+digits zero n = []
+digits (suc d) n = elim (ltb n 10) [ true ↦ digit n ∷ [] | false ↦ digits d (n / 10) ++ digit (n % 10) ∷ [] ]
+
+-- No number n has more than n + 1 digits.
+unfoldable pub decimal : ℕ → List ℕ
+decimal n = digits (suc n) n
+
+-- Each number of the list after a space.
+unfoldable pub spaced : List ℕ → List ℕ
+spaced [] = []
+spaced (k ∷ l) = bytes " " ++ decimal k ++ spaced l
+
+unfoldable pub numbers : List ℕ → List ℕ
+numbers [] = bytes "-"
+numbers (k ∷ l) = decimal k ++ spaced l
+
+-- There are at most 64 cables and 32 points.
+unfoldable pub lineOf : ℕ → ℕ → List ℕ
+lineOf c s = numbers (members 64 c) ++ bytes " | " ++ numbers (members 32 s) ++ bytes "\n"
+
+-- A word, a space and a number.
+unfoldable pub wordLine : List ℕ → ℕ → List ℕ
+wordLine word n = word ++ bytes " " ++ decimal n ++ bytes "\n"
+
+abbrev pub countLine : ℕ → List ℕ
+countLine n = wordLine (bytes "cuts") n
+
+abbrev pub refusalLine : ℕ → List ℕ
+refusalLine n = wordLine (bytes "refused") n
+
+-- All cables take 181 bytes, all points 85, the bar with its spaces 3 and the end of the line 1.
+abbrev pub maxLine : ℕ
+maxLine = 270

@@ -1,0 +1,28 @@
+//! What the calls on a plan record answer.
+
+/// The useful part of a plan.
+#[derive(Clone, Copy, Debug, Default, PartialEq, Eq)]
+pub struct Part {
+    /// The useful points.
+    pub nodes: u32,
+    /// The useful cables.
+    pub edges: u64,
+}
+
+/// One row of a list: a minimal cut and its near side. Rows are ordered by their cuts.
+#[derive(Clone, Copy, Debug, PartialEq, Eq, PartialOrd, Ord)]
+pub struct Row {
+    pub cut: u64,
+    pub side: u32,
+}
+
+/// What judging says of a set of cables.
+#[derive(Clone, Copy, Debug, PartialEq, Eq)]
+pub enum Verdict {
+    NotACut = 1,
+    NotMinimal = 2,
+    Minimal = 3,
+}
+
+/// The width table: how many rows have 0 to 64 cables.
+pub type Widths = [u64; 65];

@@ -1,0 +1,190 @@
+//! A second lister, by near sides, for plans too large to take way by way.
+
+use std::collections::HashSet;
+
+use crate::answers::{Part, Row};
+use crate::record::{Record, SLOTS};
+
+/// The useful part by ears: one way from server to room, and then, as long as there are any, ways
+/// that leave the part so far at one point and come back to it at another.
+pub fn relevant(record: &Record) -> Part {
+    let beside = neighbours(record, record.present);
+    let (source, sink) = (1u32 << record.source, 1u32 << record.sink);
+    let Some(way) = way(&beside, source, sink, 0) else {
+        return Part {
+            nodes: source | sink,
+            edges: 0,
+        };
+    };
+    let mut nodes = way;
+    while let Some(ear) = ear(&beside, nodes) {
+        nodes |= ear;
+    }
+    Part {
+        nodes,
+        edges: edges_where(record, |one, other| nodes >> one & nodes >> other & 1 == 1),
+    }
+}
+
+/// An ear: nodes on a way that leaves `nodes` at one of them and comes back at another.
+fn ear(beside: &[u32; 32], nodes: u32) -> Option<u32> {
+    (0..32)
+        .filter(|leaving| nodes >> leaving & 1 == 1)
+        .find_map(|leaving| {
+            let back = nodes & !(1 << leaving);
+            (0..32)
+                .filter(|next| beside[leaving] & !nodes & 1 << next != 0)
+                .find_map(|next| way(beside, 1 << next, back, 1 << leaving))
+        })
+}
+
+/// The nodes of a shortest way from a node of `from` to one of `to` that avoids `closed`.
+fn way(beside: &[u32; 32], from: u32, to: u32, closed: u32) -> Option<u32> {
+    let mut layers = vec![from & !closed];
+    let mut seen = layers[0];
+    loop {
+        let last = *layers.last()?;
+        if last & to != 0 {
+            break;
+        }
+        let next = around(beside, last) & !seen & !closed;
+        if next == 0 {
+            return None;
+        }
+        seen |= next;
+        layers.push(next);
+    }
+    // Back from the end, one node of each layer.
+    let end = layers.pop()? & to;
+    let mut node = end & end.wrapping_neg();
+    let mut way = node;
+    while let Some(layer) = layers.pop() {
+        let before = layer & around(beside, node);
+        node = before & before.wrapping_neg();
+        way |= node;
+    }
+    Some(way)
+}
+
+/// The list out of all sets of useful points: those with the server, without the room, whose inside
+/// and outside both hang together. For up to 20 useful points.
+pub fn list_by_subsets(record: &Record) -> Vec<Row> {
+    let part = relevant(record);
+    if part.edges == 0 {
+        return vec![alone(record)];
+    }
+    let beside = neighbours(record, part.edges);
+    let (source, sink) = (1u32 << record.source, 1u32 << record.sink);
+    let inner = part.nodes & !source & !sink;
+    assert!(inner.count_ones() <= 18, "too many sets: {record:?}");
+
+    let mut rows = Vec::new();
+    let mut chosen = inner;
+    loop {
+        let side = chosen | source;
+        let outside = part.nodes & !side;
+        if reach(&beside, source, side) == side && reach(&beside, sink, outside) == outside {
+            rows.push(row(record, part, side));
+        }
+        if chosen == 0 {
+            break;
+        }
+        chosen = (chosen - 1) & inner;
+    }
+    rows.sort_unstable();
+    rows
+}
+
+/// The list by growth: the least near side, and from each near side those that arise when one point
+/// beside it joins with all that it parts from the room. `None` if there are more than `most`.
+///
+/// Every near side comes up: from any smaller one, a point of the larger beside it leads to a near
+/// side inside the larger.
+pub fn list_by_growth(record: &Record, most: usize) -> Option<Vec<Row>> {
+    let part = relevant(record);
+    if part.edges == 0 {
+        return Some(vec![alone(record)]);
+    }
+    let beside = neighbours(record, part.edges);
+    let (source, sink) = (1u32 << record.source, 1u32 << record.sink);
+    let closed = |side: u32| part.nodes & !reach(&beside, sink, part.nodes & !side);
+
+    let least = closed(source);
+    let mut found = HashSet::from([least]);
+    let mut open = vec![least];
+    let mut rows = Vec::new();
+    while let Some(side) = open.pop() {
+        rows.push(row(record, part, side));
+        if found.len() > most {
+            return None;
+        }
+        let mut joining = around(&beside, side) & !side & !sink;
+        while joining != 0 {
+            let node = joining & joining.wrapping_neg();
+            joining &= !node;
+            let larger = closed(side | node);
+            if found.insert(larger) {
+                open.push(larger);
+            }
+        }
+    }
+    rows.sort_unstable();
+    Some(rows)
+}
+
+/// The one row of a plan without a route.
+fn alone(record: &Record) -> Row {
+    Row {
+        cut: 0,
+        side: 1 << record.source,
+    }
+}
+
+/// A near side with its cut: the useful cables with one end in it.
+fn row(record: &Record, part: Part, side: u32) -> Row {
+    let leaving = edges_where(record, |one, other| (side >> one ^ side >> other) & 1 == 1);
+    Row {
+        cut: part.edges & leaving,
+        side,
+    }
+}
+
+/// The present cables whose ends are such.
+fn edges_where(record: &Record, such: impl Fn(u8, u8) -> bool) -> u64 {
+    (0..SLOTS)
+        .filter(|&edge| record.holds(edge) && such(record.first[edge], record.second[edge]))
+        .fold(0, |set, edge| set | 1 << edge)
+}
+
+/// The nodes beside each node, over these edges.
+fn neighbours(record: &Record, edges: u64) -> [u32; 32] {
+    let mut beside = [0; 32];
+    for edge in (0..SLOTS).filter(|edge| edges >> edge & 1 == 1) {
+        let (first, second) = (record.first[edge], record.second[edge]);
+        beside[usize::from(first)] |= 1 << second;
+        beside[usize::from(second)] |= 1 << first;
+    }
+    beside
+}
+
+/// The nodes beside any of `nodes`.
+fn around(beside: &[u32; 32], nodes: u32) -> u32 {
+    let mut found = 0;
+    let mut left = nodes;
+    while left != 0 {
+        found |= beside[left.trailing_zeros() as usize];
+        left &= left - 1;
+    }
+    found
+}
+
+/// What `start` reaches inside `within`.
+fn reach(beside: &[u32; 32], start: u32, within: u32) -> u32 {
+    let mut reached = start;
+    let mut fresh = start;
+    while fresh != 0 {
+        fresh = around(beside, fresh) & within & !reached;
+        reached |= fresh;
+    }
+    reached
+}
