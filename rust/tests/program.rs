@@ -68,9 +68,7 @@ fn bytes_of(text: &str) -> Vec<u8> {
 
 #[test]
 fn the_bridge_is_printed_whole() {
-    let bridge = reference::encode(&halls::bridge(), 265)
-        .ok()
-        .expect("accepted");
+    let bridge = plans::bytes(&halls::bridge());
     assert_eq!(
         print(&bridge),
         "cuts 4\n0 1 | 0\n1 2 3 | 0 1\n0 2 4 | 0 2\n3 4 | 0 1 2\n"
@@ -96,22 +94,16 @@ fn no_route_is_one_line_with_a_hyphen() {
 
 #[test]
 fn more_than_2048_cuts_are_refused_with_12() {
-    let hubs = reference::encode(&halls::two_hubs(12), 265)
-        .ok()
-        .expect("accepted");
+    let hubs = plans::bytes(&halls::two_hubs(12));
     assert_eq!(print(&hubs), "refused 12\n");
-    let most = reference::encode(&halls::two_hubs(11), 265)
-        .ok()
-        .expect("accepted");
+    let most = plans::bytes(&halls::two_hubs(11));
     assert!(print(&most).starts_with("cuts 2048\n"));
     assert_eq!(print(&most), expected(&most));
 }
 
 #[test]
 fn bytes_past_265_are_not_read() {
-    let mut input = reference::encode(&halls::complete(11), 265)
-        .ok()
-        .expect("accepted");
+    let mut input = plans::bytes(&halls::complete(11));
     let whole = print(&input);
     assert!(whole.starts_with("cuts 512\n"));
     input.push(0);
@@ -126,7 +118,7 @@ fn random_plans_are_printed_as_the_paper_says() {
     let mut lists = 0;
     for _ in 0..300 {
         let record = plans::small(&mut rng, 12);
-        let plan = reference::encode(&record, 265).ok().expect("accepted");
+        let plan = plans::bytes(&record);
         let text = print(&plan);
         assert_eq!(text, expected(&plan));
         lists += usize::from(text.starts_with("cuts"));

@@ -156,11 +156,8 @@ pub extern "C" fn cutlist_list(
     ensures { λ r. ⌜ Listing (assembled nodes source sink present (now (first .entry)) (now (second .entry))) (now (cuts .entry)) (now (sides .entry))
         r (now (count .exit)) (now (cuts .exit)) (now (sides .exit)) ⌝ }
 {
-    let listed = listing::list(
-        assemble(nodes, source, sink, present, first, second),
-        cuts,
-        sides,
-    );
+    let hall = assemble(nodes, source, sink, present, first, second);
+    let listed = listing::list(hall, cuts, sides);
     *count = listed.count;
     listed.refusal
 }

@@ -1,22 +1,17 @@
 -- The complete list is unique, two networks have equal lists exactly if they have the same minpaths, and the rows in order of cut give the list.
 -- Assumes bounded networks for the second, a sound network for the third.
-use mathlib.Core.Path.{_≡_, refl, sym, ap₂, _∙_}
-use mathlib.Core.List.{List, [], _∷_, map, Pairwise, Pairwise·of-cons, rel-of-pairwise-cons, Pairwise·imp₂, List·Nodup, nodup-nil, nodup-cons, List·Memᴰ, List·Memᴰ·head, List·Memᴰ·tail, List·Memᴰ·not-nil, List·Memᴰ·cases-cons, List·Permᴰ, List·Permᴰ·nil, List·Permᴰ·cons, List·Permᴰ·swap, List·Permᴰ·trans, Permᴰ·symm, Permᴰ·map, Perm·nodup}
+use mathlib.Core.Path.{_≡_, refl, sym, ap₂}
+use mathlib.Core.List.{List, [], _∷_, Pairwise·of-cons, rel-of-pairwise-cons, List·Nodup, nodup-nil, nodup-cons, List·Memᴰ, List·Memᴰ·head, List·Memᴰ·tail, List·Memᴰ·not-nil, List·Memᴰ·cases-cons}
 use mathlib.Core.HLevel.{⊥-prop}
 use mathlib.Core.Logic.{_⊎_, inl, inr, _↔_, Iff·trans, Iff·symm, ∥∥₁-elim}
-use Prim.Native.Nat.{ℕ, _≤_}
+use Prim.Native.Nat.{ℕ}
 use native.Mathlib.Omega.{arith}
-use lib.Arith.{lt-of-le-ne}
 use Rattle.bitset.specs.Rising.{Rising}
 use Rattle.network.specs.declared.Network.{Network}
 use Rattle.graph.specs.Paths.{Distinct, SameMinpaths}
-use Rattle.graph.specs.Relevant.{sourceSideOf}
 use Rattle.graph.proofs.Reach.{Bounded}
 use Rattle.graph.proofs.Cuts.{same-minpaths}
-use Rattle.graph.proofs.Sound.{Sound}
-use Rattle.cuts.specs.Enumeration.{Row, cutsOf, sidesOf, rows}
 use Rattle.cuts.specs.Lists.{Lists}
-use Rattle.cuts.proofs.Complete.{in-rows, in-cuts, cuts-once}
 
 -- ---- rising lists
 
@@ -61,41 +56,8 @@ lists-equal N M B C l k p q =
       λ s. rising-unique l k (p .rising) (q .rising) (λ c. Iff·trans (p .members c) (Iff·trans (same .0 s c) (Iff·symm (q .members c)))),
     )
 
--- ---- the rows in order of cut
-
--- A permutation has the same members.
-perm-mem : {A : Type 0} {a : A} {k l : List A} → List·Permᴰ k l → List·Memᴰ a k → List·Memᴰ a l
-perm-mem List·Permᴰ·nil m = m
-perm-mem (List·Permᴰ·cons e p) m =
-    elim (List·Memᴰ·cases-cons m) [ inl q ↦ List·Memᴰ·head (q ∙ e) | inr n ↦ List·Memᴰ·tail (perm-mem p n) ]
-perm-mem (List·Permᴰ·swap e f) m =
-    elim (List·Memᴰ·cases-cons m) [
-      | inl q ↦ List·Memᴰ·tail (List·Memᴰ·head (q ∙ e))
-      | inr n ↦ elim (List·Memᴰ·cases-cons n) [ inl q ↦ List·Memᴰ·head (q ∙ f) | inr o ↦ List·Memᴰ·tail (List·Memᴰ·tail o) ]
-    ]
-perm-mem (List·Permᴰ·trans p q) m = perm-mem q (perm-mem p m)
-
 -- A list without a number twice.
 pub distinct-nodup : (l : List ℕ) → Distinct l → List·Nodup l
 unfolding Distinct
 distinct-nodup [] d = nodup-nil
 distinct-nodup (x ∷ l) d = nodup-cons .1 (λ m. ∥∥₁-elim m ⊥-prop (d .0), distinct-nodup l (d .1))
-
--- If each side is that of its cut, the sides are those of the cuts.
-sides-of-cuts : (f : ℕ → ℕ) (l : List Row) → ((r : Row) → List·Memᴰ r l → r .1 ≡ f (r .0)) → sidesOf l ≡ map f (cutsOf l)
-sides-of-cuts f [] each = refl
-sides-of-cuts f (r ∷ l) each = ap₂ _∷_ (each r (List·Memᴰ·head refl)) (sides-of-cuts f l (λ q m. each q (List·Memᴰ·tail m)))
-
-module _ (N : Network) (S : Sound N) where
-  -- The rows in order of cut, however that is brought about, are the complete list, each side beside its cut.
-  pub sorted-lists : (l : List Row) → List·Permᴰ (rows N) l → Pairwise _≤_ (cutsOf l)
-      → Lists N (cutsOf l) × (sidesOf l ≡ map (sourceSideOf N) (cutsOf l))
-  sorted-lists l perm sorted =
-      let cuts : List·Permᴰ (cutsOf (rows N)) (cutsOf l) = Permᴰ·map (λ (r : Row). r .0) perm in
-      let once : List·Nodup (cutsOf l) = Perm·nodup ∣ cuts ∣₁ (distinct-nodup (cutsOf (rows N)) (cuts-once N S)) in (
-        record {
-          rising = Pairwise·imp₂ (λ a b le ne. lt-of-le-ne le ne) sorted once;
-          members = λ c. Iff·trans (perm-mem (Permᴰ·symm cuts), perm-mem cuts) (in-cuts N S c);
-        },
-        sides-of-cuts (sourceSideOf N) l (λ r m. in-rows N S r .0 (perm-mem (Permᴰ·symm perm) m) .1),
-      )

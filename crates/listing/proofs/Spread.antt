@@ -18,7 +18,9 @@ use Rattle.graph.proofs.Reach.{Bounded}
 use Rattle.cuts.proofs.ReachIn.{reachIn-induct, reachIn-start, reachIn-⊆, reachIn-over}
 use Rattle.cuts.proofs.Part.{in-or}
 use Rattle.listing.specs.Tables.{Near}
-use Rattle.listing.proofs.Operations.{intersection-and, union-or, difference-minus, Less}
+use Rattle.reach.proofs.Operations.{intersection-and, difference-minus}
+use Rattle.reach.proofs.Scans.{Less}
+use Rattle.listing.proofs.Operations.{union-or}
 
 -- A set of nodes that holds, with each of its nodes, those beside it inside the set `within`.
 abbrev pub Kept : List ℕ → ℕ → ℕ → Type 0

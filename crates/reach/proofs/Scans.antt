@@ -19,8 +19,8 @@ pub record Less (s k t : ℕ) : Type 0 where
   pub rest : (j : ℕ) → (j ∈ t) ↔ ((j ∈ s) × (j ≡ k → ⊥))
 
 -- A set without its lowest member is less by that one.
-pub less-lowest : (s k t : ℕ) → Lowest 64 s k → k < 64 → ((j : ℕ) → has t j ≡ has s j && not (eqb j k)) → Less s k t
-less-lowest s k t low h rest = record {
+pub less-lowest : (w s k t : ℕ) → Lowest w s k → k < w → ((j : ℕ) → has t j ≡ has s j && not (eqb j k)) → Less s k t
+less-lowest w s k t low h rest = record {
   member = passes (has s k) (low .member h);
   rest = λ j. rw (rest j) (
     λ m. let p = T-and (has s j) (not (eqb j k)) .0 m in (p .0, λ e. T-not (eqb j k) .0 (p .1) (T-eqb j k .1 e)),
@@ -35,9 +35,9 @@ less-lt s k t l =
     (same-test (has t k) false (λ m. l .rest k .0 m .1 refl) absurd)
 
 -- A set of members below the width whose lowest is not below the width has none.
-pub none-left : (all s k : ℕ) → all < 2 ^ 64 → s ⊆ all → Lowest 64 s k → 64 ≤ k → (j : ℕ) → j ∈ s → ⊥
-none-left all s k small within low h j m =
-    rw (low .none-below j (let l = member-lt 64 all j small (within j m) in omega arith)) at m
+pub none-left : (w all s k : ℕ) → all < 2 ^ w → s ⊆ all → Lowest w s k → w ≤ k → (j : ℕ) → j ∈ s → ⊥
+none-left w all s k small within low h j m =
+    rw (low .none-below j (let l = member-lt w all j small (within j m) in omega arith)) at m
 
 -- ---- what holds of each member
 

@@ -5,7 +5,7 @@ use Prim.Native.Nat.{ℕ, _^_}
 use Rattle.bitset.specs.Members.{_∖_}
 use Rattle.cuts.specs.Enumeration.{blank}
 use Rattle.graph.specs.Relevant.{relevantNodes}
-use Rattle.listing.proofs.Operations.{without-minus}
+use Rattle.reach.proofs.Operations.{without-minus}
 use borrow.Author.Needs.{needs}
 use Rattle.listing.proofs.enumeration.blank.Statement.{statement}
 use Rattle.listing.proofs.enumeration.blank.Tie as tie

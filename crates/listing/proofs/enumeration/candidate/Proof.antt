@@ -2,7 +2,7 @@
 -- Assumes nothing.
 use mathlib.Core.Path.{ap}
 use lib.Count.{trailingZeros}
-use Rattle.listing.proofs.Operations.{intersection-and}
+use Rattle.reach.proofs.Operations.{intersection-and}
 use borrow.Author.Needs.{needs}
 use Rattle.listing.proofs.enumeration.candidate.Statement.{statement}
 use Rattle.listing.proofs.enumeration.candidate.Tie as tie

@@ -3,17 +3,17 @@
 use mathlib.Core.Path.{_≡_, ap, _∙_}
 use mathlib.Core.List.{List}
 use Prim.Native.Nat.{ℕ, _^_, _<_}
-use native.Mathlib.Nat.{lt-of-le-of-lt}
 use borrow.Author.Needs.{needs}
 use denote.Floats.{passes}
 use lib.ListN.{length}
 use Rattle.bitset.specs.Members.{_⊆_, _∖_}
-use Rattle.bitset.proofs.Subsets.{⊆-refl, subset-le}
+use Rattle.bitset.proofs.Subsets.{⊆-refl}
 use Rattle.network.specs.Record.{firstEnd, secondEnd}
 use Rattle.graph.specs.Cuts.{only}
 use Rattle.graph.proofs.Sound.{accepted-sound}
 use Rattle.listing.specs.Tables.{Near, At}
-use Rattle.listing.proofs.Operations.{Less, less-lowest, less-lt, none-left, gone-first, gone-next, gone-last}
+use Rattle.reach.proofs.Scans.{Less, less-lowest, less-lt, none-left}
+use Rattle.listing.proofs.Operations.{gone-first, gone-next, gone-last}
 use Rattle.listing.proofs.Filling.{with-at, with-both-length, near-first, at-first, near-next, at-next, zeros, ends-fit}
 use Rattle.listing.proofs.enumeration.fill_tables.Statement.{statement}
 use Rattle.listing.proofs.enumeration.fill_tables.Tie as tie
@@ -48,7 +48,7 @@ returns c =
     let a = c .before .before .before .args in
     let l = c .before .before .loop in
     let small : a .edges .0 < 2 ^ 64 = search needs in
-    let none = none-left 64 (l .left .0) _ (lt-of-le-of-lt (subset-le (l .left .0) (a .edges .0) (l .inv .0)) small) (c .before .lowest .ensures) (c .if1 .taken) in
+    let none = none-left 64 (a .edges .0) (l .left .0) _ small (l .inv .0) (c .before .lowest .ensures) (c .if1 .taken) in
     let all = gone-last (a .edges .0) (l .left .0) none in
     (rw all at (l .inv .3), rw all at (l .inv .4))
 

@@ -8,7 +8,8 @@ use Rattle.bitset.specs.Members.{insert, _∖_}
 use Rattle.graph.specs.Relevant.{reachIn}
 use Rattle.cuts.specs.declared.Branch.{Branch}
 use Rattle.cuts.specs.Enumeration.{joined}
-use Rattle.listing.proofs.Operations.{with-member, without-minus, union-or}
+use Rattle.reach.proofs.Operations.{with-member, without-minus}
+use Rattle.listing.proofs.Operations.{union-or}
 use Rattle.listing.proofs.Halves.{beside-round, at-edges}
 use Rattle.listing.proofs.enumeration.joined.Statement.{statement}
 use Rattle.listing.proofs.enumeration.joined.Tie as tie

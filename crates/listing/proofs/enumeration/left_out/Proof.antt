@@ -2,7 +2,7 @@
 -- Assumes nothing.
 use Rattle.cuts.specs.declared.Branch.{Branch}
 use Rattle.cuts.specs.Enumeration.{leftOut}
-use Rattle.listing.proofs.Operations.{with-member, without-minus}
+use Rattle.reach.proofs.Operations.{with-member, without-minus}
 use borrow.Author.Needs.{needs}
 use Rattle.listing.proofs.enumeration.left_out.Statement.{statement}
 use Rattle.listing.proofs.enumeration.left_out.Tie as tie

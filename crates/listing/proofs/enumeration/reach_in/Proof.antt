@@ -6,9 +6,10 @@ use native.Mathlib.Omega.{arith}
 use borrow.Author.Needs.{needs}
 use lib.ListN.{getD}
 use Rattle.bitset.specs.Members.{_∖_}
-use Rattle.bitset.proofs.Subsets.{subset-le}
+use Rattle.bitset.proofs.Subsets.{subset-le, ⊆-refl}
 use Rattle.graph.proofs.Sets.{minus-⊆}
-use Rattle.listing.proofs.Operations.{in-alone, less-lowest, none-left}
+use Rattle.reach.proofs.Scans.{less-lowest, none-left}
+use Rattle.listing.proofs.Operations.{in-alone}
 use Rattle.listing.proofs.Spread.{Spread, Turn, turn-of, spread-first, spread-next, settled-more, spread-last}
 use Rattle.listing.proofs.enumeration.reach_in.Statement.{statement}
 use Rattle.listing.proofs.enumeration.reach_in.Tie as tie
@@ -88,7 +89,7 @@ returns c M B table there =
     let l = c .before .before .loop in
     let small : l .fresh .0 < 2 ^ 32 = lt-of-le-of-lt (subset-le (l .fresh .0) (l .reached .0) (l .inv .1 .part)) (l .inv .0) in
     spread-last (a .near .now) (a .within .0) (a .start) (l .reached .0) (l .fresh .0) (l .inv .1)
-    (none-left 32 (l .fresh .0) _ small (c .before .lowest .ensures) (c .if1 .taken)) (l .inv .0) (search needs) M B table there
+    (none-left 32 (l .fresh .0) (l .fresh .0) _ small (⊆-refl (l .fresh .0)) (c .before .lowest .ensures) (c .if1 .taken)) (l .inv .0) (search needs) M B table there
 
 pub reach-in-spec : {M : Type 1} → statement M
 reach-in-spec =

@@ -7,7 +7,8 @@ use borrow.Author.Needs.{needs}
 use lib.Dec.{T}
 use Rattle.bitset.specs.Members.{has}
 use Rattle.graph.specs.Relevant.{reachIn}
-use Rattle.listing.proofs.Operations.{without-minus, drop-none}
+use Rattle.reach.proofs.Operations.{without-minus}
+use Rattle.listing.proofs.Operations.{drop-none}
 use Rattle.listing.proofs.enumeration.rest_without.Statement.{statement}
 use Rattle.listing.proofs.enumeration.rest_without.Tie as tie
 

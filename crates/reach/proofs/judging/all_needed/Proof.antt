@@ -30,7 +30,7 @@ returns : tie.Need-returns Inv-loop μ-loop
 returns c =
     let a = c .before .before .before .args in
     let l = c .before .before .loop in
-    let none = none-left (a .set .0) (l .left .0) _ (search needs) (l .inv .within) (c .before .lowest .ensures) (c .if1 .taken) in
+    let none = none-left 64 (a .set .0) (l .left .0) _ (search needs) (l .inv .within) (c .before .lowest .ensures) (c .if1 .taken) in
     sym (needed-true (a .network) (a .set .0) (λ e m. l .inv .done e m (none e)))
 
 without-requires : tie.Need-without-requires Inv-loop μ-loop
@@ -62,7 +62,7 @@ less : (c : tie.After-without-lowest Inv-loop μ-loop)
     → Less (c .before .before .before .before .before .before .loop .left .0) (c .before .before .before .before .before .lowest .result) (c .without-lowest .result .0)
 less c =
     let low = c .before .before .before .before .before .lowest in
-    less-lowest _ (low .result) _ (low .ensures) (search needs) (c .without-lowest .ensures (low .result) (low .ensures))
+    less-lowest 64 _ (low .result) _ (low .ensures) (search needs) (c .without-lowest .ensures (low .result) (low .ensures))
 
 loop-less : tie.Need-loop-less Inv-loop μ-loop
 loop-less c = less-lt _ _ _ (less c)

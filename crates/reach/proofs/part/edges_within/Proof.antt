@@ -29,7 +29,7 @@ returns c =
     let e = c .before .before .before .before .empty in
     let l = c .before .before .loop in
     let all = a .t1 .present .0 in
-    let none = none-left all (l .left .0) _ (search needs) (l .inv .1 .done .within) (c .before .lowest .ensures) (c .if1 .taken) in
+    let none = none-left 64 all (l .left .0) _ (search needs) (l .inv .1 .done .within) (c .before .lowest .ensures) (c .if1 .taken) in
     kept-all (a .t1) (a .nodes .0) (e .result .0) (l .within .0) (search needs) (λ v m. rw (e .ensures v) at m)
     (gathered-last _ (e .result .0) all (l .left .0) (l .within .0) none (l .inv .1))
 
@@ -56,7 +56,7 @@ less : (c : tie.After-without-lowest Inv-loop μ-loop)
     → Less (c .before .before .before .before .before .before .before .loop .left .0) (c .before .before .before .before .before .before .lowest .result) (c .without-lowest .result .0)
 less c =
     let low = c .before .before .before .before .before .before .lowest in
-    less-lowest _ (low .result) _ (low .ensures) (search needs) (c .without-lowest .ensures (low .result) (low .ensures))
+    less-lowest 64 _ (low .result) _ (low .ensures) (search needs) (c .without-lowest .ensures (low .result) (low .ensures))
 
 loop-less : tie.Need-loop-less Inv-loop μ-loop
 loop-less c = less-lt _ _ _ (less c)

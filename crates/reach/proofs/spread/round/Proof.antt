@@ -27,7 +27,7 @@ unfolding only
 returns c =
     let a = c .before .before .before .args in
     let l = c .before .before .loop in
-    let none = none-left (a .edges .0) (l .left .0) _ (search needs) (l .inv .1 .done .within) (c .before .lowest .ensures) (c .if1 .taken) in
+    let none = none-left 64 (a .edges .0) (l .left .0) _ (search needs) (l .inv .1 .done .within) (c .before .lowest .ensures) (c .if1 .taken) in
     round-fits (only (a .t1) (a .edges .0)) (a .reached .0) (search needs) (search needs) (l .next .0)
     (gathered-last _ (a .reached .0) (a .edges .0) (l .left .0) (l .next .0) none (l .inv .1))
 
@@ -51,7 +51,7 @@ less : (c : tie.After-without-lowest Inv-loop μ-loop)
     → Less (c .before .before .before .before .before .before .loop .left .0) (c .before .before .before .before .before .lowest .result) (c .without-lowest .result .0)
 less c =
     let low = c .before .before .before .before .before .lowest in
-    less-lowest _ (low .result) _ (low .ensures) (search needs) (c .without-lowest .ensures (low .result) (low .ensures))
+    less-lowest 64 _ (low .result) _ (low .ensures) (search needs) (c .without-lowest .ensures (low .result) (low .ensures))
 
 loop-less : tie.Need-loop-less Inv-loop μ-loop
 loop-less c = less-lt _ _ _ (less c)

@@ -1,0 +1,48 @@
+//! Proved cut lists for a cabled hall.
+//!
+//! A plan has points and cables between two points each; one point is the server, one the room. A
+//! cut is a set of cables without which the server no longer reaches the room, and a minimal cut is
+//! one of which no cable can be spared. This crate lists all of them, by a static library whose
+//! every function is proved to keep its contract.
+//!
+//! ```
+//! use cutlist::{EdgeSet, Plan, Refusal, Verdict};
+//!
+//! // The bridge: server 0, room 3, and a cable across.
+//! let plan = Plan::new(4, 0, 3)?
+//!     .with_edge(0, 0, 1)?
+//!     .with_edge(1, 0, 2)?
+//!     .with_edge(2, 1, 2)?
+//!     .with_edge(3, 1, 3)?
+//!     .with_edge(4, 2, 3)?;
+//!
+//! let rows = plan.mincuts()?;
+//! let lines: Vec<String> = rows.iter().map(|row| row.to_string()).collect();
+//! assert_eq!(lines, ["0 1 | 0", "1 2 3 | 0 1", "0 2 4 | 0 2", "3 4 | 0 1 2"]);
+//!
+//! // Cables 0, 1 and 2 cut the room off, and one of them could be spared.
+//! assert_eq!(plan.classify(EdgeSet(0b00111))?, Verdict::NotMinimal);
+//!
+//! // Two cuts of two cables, two of three.
+//! let cuts: Vec<EdgeSet> = rows.iter().map(|row| row.cut).collect();
+//! assert_eq!(cutlist::widths(&cuts)[..5], [0, 0, 2, 2, 0]);
+//!
+//! // A plan travels as bytes, and bytes outside the rules are refused.
+//! let bytes = plan.encode()?;
+//! assert_eq!(Plan::decode(&bytes)?, plan);
+//! assert_eq!(Plan::decode(&bytes[..25]), Err(Refusal::StopsEarly));
+//! # Ok::<(), Refusal>(())
+//! ```
+
+#![deny(unsafe_code)]
+#![warn(missing_docs)]
+
+mod plan;
+mod refusal;
+mod sets;
+#[allow(unsafe_code)]
+mod sys;
+
+pub use plan::{widths, Mincut, Plan, Relevant, Verdict};
+pub use refusal::Refusal;
+pub use sets::{EdgeSet, Members, NodeSet};

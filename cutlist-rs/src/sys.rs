@@ -1,0 +1,215 @@
+//! The library's functions: all that is unsafe. Each gives the refusal's number, 0 if there is
+//! none, beside its result.
+
+use crate::sets::EdgeSet;
+
+/// Slots for cables.
+pub const SLOTS: usize = 64;
+
+/// Counts in a width table.
+pub const WIDTHS: usize = 65;
+
+/// A plan record, field by field; anything may stand in it.
+#[derive(Clone, Debug, PartialEq, Eq)]
+pub struct Record {
+    pub nodes: u8,
+    pub source: u8,
+    pub sink: u8,
+    pub present: u64,
+    pub first: [u8; SLOTS],
+    pub second: [u8; SLOTS],
+}
+
+impl Record {
+    /// A record without cables.
+    pub fn bare(nodes: u8, source: u8, sink: u8) -> Record {
+        Record {
+            nodes,
+            source,
+            sink,
+            present: 0,
+            first: [0; SLOTS],
+            second: [0; SLOTS],
+        }
+    }
+}
+
+// As include/cutlist.h declares them: a slice is a pointer and a length.
+unsafe extern "C" {
+    fn cutlist_decode(
+        plan: *const u8,
+        plan_length: usize,
+        nodes: *mut u8,
+        source: *mut u8,
+        sink: *mut u8,
+        present: *mut u64,
+        first: *mut [u8; SLOTS],
+        second: *mut [u8; SLOTS],
+    ) -> u8;
+
+    fn cutlist_fault(
+        nodes: u8,
+        source: u8,
+        sink: u8,
+        present: u64,
+        first: *const [u8; SLOTS],
+        second: *const [u8; SLOTS],
+    ) -> u8;
+
+    fn cutlist_encode(
+        nodes: u8,
+        source: u8,
+        sink: u8,
+        present: u64,
+        first: *const [u8; SLOTS],
+        second: *const [u8; SLOTS],
+        plan: *mut u8,
+        plan_length: usize,
+        count: *mut usize,
+    ) -> u8;
+
+    fn cutlist_relevant(
+        nodes: u8,
+        source: u8,
+        sink: u8,
+        present: u64,
+        first: *const [u8; SLOTS],
+        second: *const [u8; SLOTS],
+        node_set: *mut u32,
+        edge_set: *mut u64,
+    ) -> u8;
+
+    fn cutlist_classify(
+        nodes: u8,
+        source: u8,
+        sink: u8,
+        present: u64,
+        first: *const [u8; SLOTS],
+        second: *const [u8; SLOTS],
+        set: u64,
+        verdict: *mut u8,
+    ) -> u8;
+
+    fn cutlist_list(
+        nodes: u8,
+        source: u8,
+        sink: u8,
+        present: u64,
+        first: *const [u8; SLOTS],
+        second: *const [u8; SLOTS],
+        cuts: *mut u64,
+        cuts_length: usize,
+        sides: *mut u32,
+        sides_length: usize,
+        count: *mut usize,
+    ) -> u8;
+
+    fn cutlist_widths(cuts: *const u64, cuts_length: usize, table: *mut [u64; WIDTHS]);
+}
+
+/// Reads a plan.
+pub fn decode(plan: &[u8]) -> (u8, Record) {
+    let mut r = Record::bare(0, 0, 0);
+    // SAFETY: each pointer is valid for its type and length, and no two overlap.
+    let refusal = unsafe {
+        cutlist_decode(
+            plan.as_ptr(),
+            plan.len(),
+            &mut r.nodes,
+            &mut r.source,
+            &mut r.sink,
+            &mut r.present,
+            &mut r.first,
+            &mut r.second,
+        )
+    };
+    (refusal, r)
+}
+
+/// Tests a record.
+pub fn fault(r: &Record) -> u8 {
+    // SAFETY: each pointer is valid for its type.
+    unsafe { cutlist_fault(r.nodes, r.source, r.sink, r.present, &r.first, &r.second) }
+}
+
+/// Writes a record into `plan`: the count.
+pub fn encode(r: &Record, plan: &mut [u8]) -> (u8, usize) {
+    let mut count = 0;
+    // SAFETY: each pointer is valid for its type and length, and no two overlap.
+    let refusal = unsafe {
+        cutlist_encode(
+            r.nodes,
+            r.source,
+            r.sink,
+            r.present,
+            &r.first,
+            &r.second,
+            plan.as_mut_ptr(),
+            plan.len(),
+            &mut count,
+        )
+    };
+    (refusal, count)
+}
+
+/// The useful points and the useful cables.
+pub fn relevant(r: &Record) -> (u8, (u32, u64)) {
+    let (mut nodes, mut edges) = (0, 0);
+    // SAFETY: each pointer is valid for its type, and no two overlap.
+    let refusal = unsafe {
+        cutlist_relevant(
+            r.nodes, r.source, r.sink, r.present, &r.first, &r.second, &mut nodes, &mut edges,
+        )
+    };
+    (refusal, (nodes, edges))
+}
+
+/// Judges a set of cables: the verdict's number.
+pub fn classify(r: &Record, set: u64) -> (u8, u8) {
+    let mut verdict = 0;
+    // SAFETY: each pointer is valid for its type, and no two overlap.
+    let refusal = unsafe {
+        cutlist_classify(
+            r.nodes,
+            r.source,
+            r.sink,
+            r.present,
+            &r.first,
+            &r.second,
+            set,
+            &mut verdict,
+        )
+    };
+    (refusal, verdict)
+}
+
+/// Lists the minimal cuts into lent rows: the count.
+pub fn list(r: &Record, cuts: &mut [u64], sides: &mut [u32]) -> (u8, usize) {
+    let mut count = 0;
+    // SAFETY: each pointer is valid for its type and length, and no two overlap.
+    let refusal = unsafe {
+        cutlist_list(
+            r.nodes,
+            r.source,
+            r.sink,
+            r.present,
+            &r.first,
+            &r.second,
+            cuts.as_mut_ptr(),
+            cuts.len(),
+            sides.as_mut_ptr(),
+            sides.len(),
+            &mut count,
+        )
+    };
+    (refusal, count)
+}
+
+/// The width table of a list.
+pub fn widths(cuts: &[EdgeSet]) -> [u64; WIDTHS] {
+    let mut table = [0; WIDTHS];
+    // SAFETY: each pointer is valid for its type and length, and the two do not overlap. An EdgeSet
+    // is laid out as its number, being transparent.
+    unsafe { cutlist_widths(cuts.as_ptr().cast(), cuts.len(), &mut table) };
+    table
+}

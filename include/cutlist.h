@@ -1,0 +1,194 @@
+/*
+ * Proved cut lists for a cabled hall: the functions of the static library libcapi.a.
+ *
+ * A plan has points (nodes) and cables (edges) between two points each; one point is the server
+ * (source), one the room (sink). A plan crosses the border as bytes, or as a record field by field:
+ *
+ *   nodes    the point count, 2 to 32; points are numbered from 0
+ *   source   the server
+ *   sink     the room
+ *   present  the set of cables present; cables have numbers 0 to 63
+ *   first    the first end of each cable, 0 if the cable is absent
+ *   second   the second end of each cable, 0 if the cable is absent
+ *
+ * A set is a number in which member k weighs 2^k: 64 bits for cables, 32 bits for points.
+ *
+ * Every function but cutlist_widths gives the number of a refusal, CUTLIST_ACCEPTED if there is
+ * none. Whatever a record's fields hold, the call is safe: each call tests the record first, as
+ * cutlist_fault does. Out parameters are written on refusal too, as said beside each; lent bytes and
+ * rows are untouched then.
+ *
+ * No pointer may be NULL, not even beside a length of 0, and no two may lead to the same memory if
+ * one of them is written through. The functions keep nothing between calls and allocate nothing.
+ */
+#ifndef CUTLIST_H
+#define CUTLIST_H
+
+#include <stddef.h>
+#include <stdint.h>
+
+#ifdef __cplusplus
+extern "C" {
+#endif
+
+/* Slots for cables in a record. */
+#define CUTLIST_SLOTS 64
+
+/* Counts in a width table: widths 0 to 64. */
+#define CUTLIST_WIDTHS 65
+
+/* Bytes in the longest plan. A buffer of this length takes any plan. */
+#define CUTLIST_LONGEST_PLAN 262
+
+/* Bytes that decide any plan: reading more cannot change the answer. */
+#define CUTLIST_DECIDING_BYTES 265
+
+/* Why a call refused. Bytes are named in hexadecimal. */
+enum cutlist_refusal {
+    CUTLIST_ACCEPTED = 0,
+
+    /* By what carried the bytes. */
+    CUTLIST_STOPS_EARLY = 1,      /* the plan stops early */
+    CUTLIST_UNFIT_BYTE = 2,       /* a byte that is no command fit for its place */
+    CUTLIST_BYTE_AFTER_END = 3,   /* a byte after 45 */
+
+    /* By the one who surveyed the hall. */
+    CUTLIST_POINT_COUNT = 4,      /* point count not 2 to 32 */
+    CUTLIST_SERVER_OR_ROOM = 5,   /* server or room not below the point count */
+    CUTLIST_SERVER_IS_ROOM = 6,   /* server and room the same point */
+    CUTLIST_CABLE_NUMBER = 7,     /* cable number above 63 */
+    CUTLIST_CABLE_ORDER = 8,      /* cable number not above the one before */
+    CUTLIST_CABLE_END = 9,        /* a cable end not below the point count */
+    CUTLIST_ENDS_AT_ONE = 10,     /* both ends of a cable at one point */
+
+    /* By the program that calls. */
+    CUTLIST_ROWS_DIFFER = 11,     /* cut rows and side rows differ in number */
+    CUTLIST_MORE_CUTS = 12,       /* more minimal cuts than rows lent */
+    CUTLIST_ABSENT_WITH_END = 13, /* an absent cable with an end not 0 */
+    CUTLIST_NOT_PRESENT = 14,     /* a judged set holds a cable not present */
+    CUTLIST_MORE_BYTES = 15       /* the plan needs more bytes than were lent */
+};
+
+/* What judging says of a set of cables. */
+enum cutlist_verdict {
+    CUTLIST_NO_VERDICT = 0,       /* the call refused */
+    CUTLIST_NOT_A_CUT = 1,        /* not a cut */
+    CUTLIST_NOT_MINIMAL = 2,      /* a cut but not minimal */
+    CUTLIST_MINIMAL = 3           /* minimal */
+};
+
+/*
+ * Reads a plan: refusals 1 to 10.
+ *
+ *   plan, plan_length  the bytes; none past the last is looked at
+ *   nodes              out: the point count
+ *   source             out: the server
+ *   sink               out: the room
+ *   present            out: the set of cables present
+ *   first              out: the first end of each cable
+ *   second             out: the second end of each cable
+ *
+ * On refusal all six are zero throughout.
+ */
+uint8_t cutlist_decode(
+    const uint8_t *plan, size_t plan_length,
+    uint8_t *nodes,
+    uint8_t *source,
+    uint8_t *sink,
+    uint64_t *present,
+    uint8_t first[CUTLIST_SLOTS],
+    uint8_t second[CUTLIST_SLOTS]);
+
+/* Tests a record, and gives the number of its first fault: 4, 5, 6, then slot by slot 9, 10 or 13. */
+uint8_t cutlist_fault(
+    uint8_t nodes,
+    uint8_t source,
+    uint8_t sink,
+    uint64_t present,
+    const uint8_t first[CUTLIST_SLOTS],
+    const uint8_t second[CUTLIST_SLOTS]);
+
+/*
+ * Writes a record as a plan, cables rising: refusals of cutlist_fault, and 15.
+ *
+ *   plan, plan_length  out: the lent buffer; bytes past the count hold what they held
+ *   count              out: how many bytes were written, 0 on refusal
+ */
+uint8_t cutlist_encode(
+    uint8_t nodes,
+    uint8_t source,
+    uint8_t sink,
+    uint64_t present,
+    const uint8_t first[CUTLIST_SLOTS],
+    const uint8_t second[CUTLIST_SLOTS],
+    uint8_t *plan, size_t plan_length,
+    size_t *count);
+
+/*
+ * Finds the useful part, the points and cables on some route from server to room: refusals of
+ * cutlist_fault.
+ *
+ *   node_set  out: the useful points, server and room always among them; empty on refusal
+ *   edge_set  out: the useful cables; empty on refusal
+ */
+uint8_t cutlist_relevant(
+    uint8_t nodes,
+    uint8_t source,
+    uint8_t sink,
+    uint64_t present,
+    const uint8_t first[CUTLIST_SLOTS],
+    const uint8_t second[CUTLIST_SLOTS],
+    uint32_t *node_set,
+    uint64_t *edge_set);
+
+/*
+ * Judges a set of cables: refusals of cutlist_fault, and 14.
+ *
+ *   set      the set to judge
+ *   verdict  out: one of enum cutlist_verdict, CUTLIST_NO_VERDICT on refusal
+ */
+uint8_t cutlist_classify(
+    uint8_t nodes,
+    uint8_t source,
+    uint8_t sink,
+    uint64_t present,
+    const uint8_t first[CUTLIST_SLOTS],
+    const uint8_t second[CUTLIST_SLOTS],
+    uint64_t set,
+    uint8_t *verdict);
+
+/*
+ * Lists the minimal cuts in rising order of their numbers, each beside its near side: the useful
+ * points that the server still reaches when the cut is taken out. Refusals of cutlist_fault, 11 and
+ * 12. Without a route the list is one row: cut 0, side the server alone.
+ *
+ *   cuts, cuts_length    out: the lent rows for cuts; rows past the count hold what they held
+ *   sides, sides_length  out: the lent rows for near sides, as many as for cuts; likewise
+ *   count                out: how many rows were listed, 0 on refusal
+ */
+uint8_t cutlist_list(
+    uint8_t nodes,
+    uint8_t source,
+    uint8_t sink,
+    uint64_t present,
+    const uint8_t first[CUTLIST_SLOTS],
+    const uint8_t second[CUTLIST_SLOTS],
+    uint64_t *cuts, size_t cuts_length,
+    uint32_t *sides, size_t sides_length,
+    size_t *count);
+
+/*
+ * Counts the rows of a list by width, the number of cables in the cut. It refuses nothing.
+ *
+ *   cuts, cuts_length  the list; any rows, or none
+ *   table              out: how many rows have width 0, 1 .. 64
+ */
+void cutlist_widths(
+    const uint64_t *cuts, size_t cuts_length,
+    uint64_t table[CUTLIST_WIDTHS]);
+
+#ifdef __cplusplus
+}
+#endif
+
+#endif
