@@ -1,6 +1,2 @@
-// Sets of nodes and sets of edges, by value: member k weighs 2 ^ k. Every contract speaks of the members (specs/Members.antt).
-mod edge_set;
-mod node_set;
-
-pub use edge_set::EdgeSet;
-pub use node_set::NodeSet;
+// Sets of small numbers, each kept in one number: member k weighs 2 ^ k. Definitions and laws alone, for every width; the code is
+// in `node_set` and `edge_set`.

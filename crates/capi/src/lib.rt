@@ -2,7 +2,7 @@
 //
 // A network crosses the border field by field: the counts and the set of edges as numbers, the ends as two arrays of 64.
 // A slice passes as a pointer and a length, an array or a single number as a pointer.
-use bitset::EdgeSet;
+use edge_set::EdgeSet;
 use network::Network;
 ghost use mathlib.Core.Path.{_≡_};
 ghost use Rattle.network.specs.Record.{faultOf};
@@ -23,7 +23,7 @@ pub extern "C" fn cutlist_decode(
     ensures { λ r. ⌜ Read (now (plan .entry)) r
         (assembled (now (nodes .exit)) (now (source .exit)) (now (sink .exit)) (now (present .exit)) (now (first .exit)) (now (second .exit))) ⌝ }
 {
-    let decoded = network::decode(plan);
+    let decoded = codec::decode(plan);
     let read = decoded.network;
     let edges = read.present;
     let firsts = read.first;
@@ -89,7 +89,7 @@ pub extern "C" fn cutlist_encode(
 ) -> u8
     ensures { λ r. ⌜ Written (assembled nodes source sink present (now (first .entry)) (now (second .entry))) (now (plan .entry)) r (now (count .exit)) (now (plan .exit)) ⌝ }
 {
-    let encoded = network::encode(assemble(nodes, source, sink, present, first, second), plan);
+    let encoded = codec::encode(assemble(nodes, source, sink, present, first, second), plan);
     *count = encoded.count;
     encoded.refusal
 }

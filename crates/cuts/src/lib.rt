@@ -1,6 +1,6 @@
 // The list of the mincuts of a network.
-use bitset::EdgeSet;
-use bitset::NodeSet;
+use edge_set::EdgeSet;
+use node_set::NodeSet;
 
 // A branch of the enumeration of source sides.
 pub struct Branch {

@@ -2,10 +2,10 @@
 //
 // It reads up to 265 bytes, enough to decide any plan, and lends 2,048 rows. The lines are made by the crate `text`, in a buffer that
 // is written out whenever the next line does not fit.
-use bitset::EdgeSet;
-use bitset::NodeSet;
+use edge_set::EdgeSet;
 use libc::STDIN_FILENO;
 use libc::STDOUT_FILENO;
+use node_set::NodeSet;
 ghost use Prim.Native.Nat.{_≤_};
 ghost use lib.ListN.{length};
 
@@ -59,7 +59,7 @@ fn print_refusal(refusal: u8) {
 fn main() {
     let mut plan = [0u8; 265];
     let n = io::read_full(STDIN_FILENO, &mut plan);
-    let decoded = network::decode(&plan[..n]);
+    let decoded = codec::decode(&plan[..n]);
     if decoded.refusal != 0 {
         print_refusal(decoded.refusal);
         return;

@@ -9,8 +9,7 @@ use lib.ListN.{length, take, length-map}
 use lib.Seq.{sets}
 use Rattle.rows.specs.Sorted.{Sorted, SortedIfPaired}
 use Rattle.network.specs.declared.Network.{Network}
-use Rattle.network.specs.Record.{faultOf, Stored}
-use Rattle.network.specs.Format.{unlessRefused}
+use Rattle.network.specs.Record.{unlessRefused, faultOf, Stored}
 use Rattle.graph.proofs.Sound.{Sound, accepted-sound}
 use Rattle.cuts.specs.Enumeration.{Row, cutsOf, sidesOf, rows}
 use Rattle.listing.specs.declared.Listed.{Listed}

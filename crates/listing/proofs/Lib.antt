@@ -1,4 +1,4 @@
--- The list, in reading order: what the complete list is, the enumeration as the code makes it, the call, the demands, the halls.
+-- The list, in reading order: what the complete list is, the enumeration as the code makes it, the call.
 pub mod Mincuts
 pub mod Rows
 pub mod Operations
@@ -11,6 +11,3 @@ pub mod Onto
 pub mod Refusals
 pub mod Call
 pub mod Given
-pub mod DemandTwo
-pub mod DemandThree
-pub mod Halls

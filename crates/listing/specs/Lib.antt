@@ -1,5 +1,4 @@
--- The definitions that the contracts of `listing` cite, and the table of the starred halls.
+-- The definitions that the contracts of `listing` cite.
 pub mod List
 pub mod Tables
 pub mod Rows
-pub mod Halls

@@ -7,20 +7,14 @@
 --   listRefusal N cuts sides     the call's refusal for a network and lent rows, 0 if there is none
 --   listedBy N cuts sides        its answer
 --   cutRowsAfter N cuts sides, sideRowsAfter N cuts sides     the lent rows afterwards
---   CompleteList N n cuts sides  the first n rows are the mincuts of N, rising, each beside its source side (demand 2)
---   SameList n cuts m cuts′      n rows and m rows have equal cuts at equal places, and are equally many (the paper's equal lists)
 use mathlib.Core.Bool.{Bool, true, false, not}
 use mathlib.Core.List.{List, [], _∷_, _++_, map}
-use mathlib.Core.Logic.{_↔_}
-use mathlib.Core.Path.{_≡_}
-use Prim.Native.Nat.{ℕ, zero, suc, _<_}
-use lib.Dec.{T, ltb, eqb}
-use lib.ListN.{length, drop, getD}
-use Rattle.bitset.specs.Members.{has, subsets}
+use Prim.Native.Nat.{ℕ, zero, suc}
+use lib.Dec.{ltb, eqb}
+use lib.ListN.{length, drop}
+use Rattle.bitset.specs.Members.{subsets}
 use Rattle.network.specs.declared.Network.{Network}
-use Rattle.network.specs.Record.{_when_, _then_, faultOf}
-use Rattle.network.specs.Format.{unlessRefused}
-use Rattle.graph.specs.Cuts.{Mincut, OnSourceSide}
+use Rattle.network.specs.Record.{_when_, _then_, unlessRefused, faultOf}
 use Rattle.graph.specs.CutTests.{mincutTest}
 use Rattle.graph.specs.Relevant.{sourceSideOf}
 use Rattle.listing.specs.declared.Listed.{Listed}
@@ -63,15 +57,3 @@ cutRowsAfter N cuts sides = unlessRefused (listRefusal N cuts sides) (onto (minc
 
 unfoldable pub sideRowsAfter : Network → List ℕ → List ℕ → List ℕ
 sideRowsAfter N cuts sides = unlessRefused (listRefusal N cuts sides) (onto (sourceSides N) sides) sides
-
--- ---- what a list is
-
-pub record CompleteList (N : Network) (n : ℕ) (cuts sides : List ℕ) : Type 0 where
-  pub rising : (i j : ℕ) → i < j → j < n → getD cuts i 0 < getD cuts j 0
-  pub members : (c : ℕ) → ((i : ℕ) × (i < n) × (getD cuts i 0 ≡ c)) ↔ Mincut N c
-  pub beside : (i v : ℕ) → i < n → T (has (getD sides i 0) v) ↔ OnSourceSide N (getD cuts i 0) v
-
--- Sides and later rows are not compared.
-pub record SameList (n : ℕ) (cuts : List ℕ) (m : ℕ) (cuts′ : List ℕ) : Type 0 where
-  pub counts : n ≡ m
-  pub rows : (i : ℕ) → i < n → getD cuts i 0 ≡ getD cuts′ i 0

@@ -1,8 +1,8 @@
 // The enumeration of the source sides (the paper's near sides): a node beside the side joins it, or is left out for good.
-use bitset::EdgeSet;
-use bitset::NodeSet;
 use cuts::Branch;
+use edge_set::EdgeSet;
 use network::Network;
+use node_set::NodeSet;
 ghost use mathlib.Core.Path.{_≡_};
 ghost use mathlib.Core.List.{[], _∷_};
 ghost use Prim.Native.Nat.{_^_, _≤_, _<_};

@@ -1,9 +1,11 @@
 // The list call: the relevant part, a count of its rows where they might not suffice, the rows, and their order.
 use crate::Listed;
 use crate::enumeration::enumerate;
-use bitset::EdgeSet;
-use bitset::NodeSet;
+use edge_set::EdgeSet;
 use network::Network;
+use network::refusal::ROWS_DIFFER;
+use network::refusal::TOO_MANY_CUTS;
+use node_set::NodeSet;
 use rows::sort_rows;
 ghost use mathlib.Core.Path.{_≡_};
 ghost use mathlib.Core.Bool.{true};
@@ -14,11 +16,6 @@ ghost use Rattle.network.specs.Record.{faultOf};
 ghost use Rattle.graph.specs.Relevant.{relevantNodes, relevantEdges};
 ghost use Rattle.cuts.specs.Enumeration.{rows};
 ghost use Rattle.listing.specs.List.{listedBy, cutRowsAfter, sideRowsAfter};
-
-// By the program that calls.
-const ROWS_DIFFER: u8 = 11; // cut rows and side rows differ in number
-
-const TOO_MANY_CUTS: u8 = 12; // more minimal cuts than rows lent
 
 // Whether so many rows suffice for every network with so many relevant nodes: they have at most 2 ^ (nodes - 2) mincuts.
 fn always_enough(nodes: u32, lent: usize) -> bool

@@ -1,4 +1,4 @@
--- The 64 slots of a record: what is stored in one, and what the record test and the writer make of all of them.
+-- The 64 slots of a record: what is stored in one, and what the record test makes of all of them.
 -- Assumes nothing.
 use mathlib.Core.Bool.{true, false, _||_, or-false, or-true}
 use mathlib.Core.List.{[], _++_, map, foldr, flatMap}
@@ -12,20 +12,15 @@ use borrow.Author.Tests.{eq-eqb, ne-eqb}
 use Rattle.bitset.proofs.Members.{has-insert, insert-lt}
 use Rattle.network.specs.declared.Network.{Network}
 use Rattle.network.specs.Record.{_then_, Stored, rising, Slot, slot, slotFaultOf, slotFault, slotsFault, sizeFault, terminalFault, faultOf, hasEdge, firstEnd, secondEnd, withEdge}
-use Rattle.network.specs.Format.{commandOf, edgeCommand}
 use Rattle.network.proofs.Refusals.{then-none, none-then}
 
 abbrev pub empty : Slot
 empty = (false, 0, 0)
 
--- The fault of a slot and its command are read off what it holds.
+-- The fault of a slot is read off what it holds.
 pub slotFault-of : (N : Network) (k : ℕ) {s : Slot} → slot N k ≡ s → slotFault N k ≡ slotFaultOf (N .nodes) s
 unfolding slotFault
 slotFault-of N k e = ap (slotFaultOf (N .nodes)) e
-
-pub command-of : (N : Network) (k : ℕ) {s : Slot} → slot N k ≡ s → edgeCommand N k ≡ commandOf k s
-unfolding edgeCommand
-command-of N k e = ap (commandOf k) e
 
 -- ---- an edge put in
 
@@ -90,30 +85,6 @@ pub accepted-none : (N : Network) → Accepted N → faultOf N ≡ 0
 unfolding faultOf slotsFault
 accepted-none N a =
     none-then _ (a .size) ∙ none-then _ (a .terminals) ∙ none-row (slotFault N) 0 64 (λ j h l. a .slot-none j (omega arith))
-
--- A slot without an edge has no command.
-pub command-absent : (N : Network) (k : ℕ) → hasEdge N k ≡ false → edgeCommand N k ≡ []
-unfolding edgeCommand
-command-absent N k e = rw e
-
--- The commands of the n slots from k on, where they end together with the n′ slots from k′ on, are those from k′ on if the slots
--- between are absent.
-pub commands-skip : (N : Network) (k n k′ n′ : ℕ) → k ≤ k′ → k + n ≡ k′ + n′ → ((j : ℕ) → k ≤ j → j < k′ → hasEdge N j ≡ false)
-    → flatMap (edgeCommand N) (rising k n) ≡ flatMap (edgeCommand N) (rising k′ n′)
-unfolding rising flatMap
-commands-skip N k zero k′ n′ h e z =
-    let p : k ≡ k′ = omega arith in
-    let q : 0 ≡ n′ = omega arith in
-    ap₂ (λ x y. flatMap (edgeCommand N) (rising x y)) p q
-commands-skip N k (suc n) k′ n′ h e z =
-    here-or-later (λ (l : suc k ≤ k′). commands-skip N (suc k) n k′ n′ l (omega arith) (λ j p. z j (omega arith))) (ℕ-discrete k k′)
-  where
-    here-or-later : (suc k ≤ k′ → flatMap (edgeCommand N) (rising (suc k) n) ≡ flatMap (edgeCommand N) (rising k′ n′)) → Dec (k ≡ k′)
-        → flatMap (edgeCommand N) (rising k (suc n)) ≡ flatMap (edgeCommand N) (rising k′ n′)
-    here-or-later later (yes p) = let q : suc n ≡ n′ = omega arith in ap₂ (λ x y. flatMap (edgeCommand N) (rising x y)) p q
-    here-or-later later (no d) =
-        ap (λ c. c ++ flatMap (edgeCommand N) (rising (suc k) n)) (command-absent N k (z k (omega arith) (omega arith)))
-        ∙ later (omega arith)
 
 -- The first fault of the slots from k on is that of slot k, or else that of the later ones.
 pub slots-step : (N : Network) (k : ℕ) → k < 64 → slotsFault N k (64 - k) ≡ (slotFault N k then slotsFault N (suc k) (64 - suc k))

@@ -1,3 +1,2 @@
 -- The definitions that the contracts of `network` cite.
 pub mod Record
-pub mod Format

@@ -1,4 +1,4 @@
-// The refusals that reading, testing and writing a plan can give, by the paper's numbers.
+// The refusals, by the paper's numbers.
 
 // By what carried the bytes.
 pub const TRUNCATED: u8 = 1; // the plan stops early
@@ -23,6 +23,12 @@ pub const END_OUTSIDE: u8 = 9; // a cable end not below the point count
 pub const SAME_ENDS: u8 = 10; // both ends of a cable at one point
 
 // By the program that calls.
+pub const ROWS_DIFFER: u8 = 11; // cut rows and side rows differ in number
+
+pub const TOO_MANY_CUTS: u8 = 12; // more minimal cuts than rows lent
+
 pub const ABSENT_EDGE_WITH_END: u8 = 13; // an absent cable with an end not 0
+
+pub const EDGE_NOT_PRESENT: u8 = 14; // a judged set holds a cable not present
 
 pub const BUFFER_TOO_SHORT: u8 = 15; // the plan needs more bytes than were lent

@@ -1,16 +1,14 @@
 // Judging a set of edges: one spread tells whether it is a cut, and one more for each member whether it is minimal.
 use crate::Verdict;
 use crate::spread::reach;
-use bitset::EdgeSet;
-use bitset::NodeSet;
+use edge_set::EdgeSet;
 use network::Network;
+use network::refusal::EDGE_NOT_PRESENT;
+use node_set::NodeSet;
 ghost use mathlib.Core.Path.{_≡_};
 ghost use Rattle.network.specs.Record.{faultOf};
 ghost use Rattle.graph.specs.CutTests.{severed, allNeeded};
 ghost use Rattle.reach.specs.Answers.{verdictOf, refusalNumber, verdictNumber};
-
-// By the program that calls.
-const EDGE_NOT_PRESENT: u8 = 14; // a judged set holds a cable not present
 
 // Whether without the edges of the set the source does not reach the sink.
 fn severed(network: Network, set: EdgeSet) -> bool

@@ -7,8 +7,8 @@
 //   verdict_number   the number of a verdict
 //
 // Every function takes whatever it is given: none has a `requires`.
-use bitset::EdgeSet;
-use bitset::NodeSet;
+use edge_set::EdgeSet;
+use node_set::NodeSet;
 
 mod judging;
 mod part;

@@ -1,9 +1,9 @@
 // The relevant part (the paper's useful part): the nodes that no other node cuts off from both terminals, and the edges among them.
 use crate::RelevantPart;
 use crate::spread::reach;
-use bitset::EdgeSet;
-use bitset::NodeSet;
+use edge_set::EdgeSet;
 use network::Network;
+use node_set::NodeSet;
 ghost use mathlib.Core.Path.{_≡_};
 ghost use mathlib.Core.Bool.{_&&_};
 ghost use Prim.Native.Nat.{_%_, _^_, _<_};

@@ -1,7 +1,7 @@
 // The reachable set (the paper's reach): rounds over the edges until one adds no node.
-use bitset::EdgeSet;
-use bitset::NodeSet;
+use edge_set::EdgeSet;
 use network::Network;
+use node_set::NodeSet;
 ghost use mathlib.Core.Path.{_≡_};
 ghost use Prim.Native.Nat.{_%_, _^_};
 ghost use Rattle.bitset.specs.Members.{has, _⊆_};

@@ -1,5 +1,5 @@
 // How many rows there are of each width.
-use bitset::EdgeSet;
+use edge_set::EdgeSet;
 ghost use mathlib.Core.Path.{_≡_};
 ghost use Rattle.bitset.specs.Members.{size};
 ghost use Rattle.rows.specs.Widths.{widthsOf};

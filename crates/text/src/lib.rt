@@ -1,6 +1,6 @@
 // The printed lines of a list, as bytes in lent memory. Every contract speaks of the bytes (specs/Text.antt, specs/Written.antt).
-use bitset::EdgeSet;
-use bitset::NodeSet;
+use edge_set::EdgeSet;
+use node_set::NodeSet;
 ghost use mathlib.Core.Path.{_≡_};
 ghost use Prim.Native.Nat.{_+_, _≤_, _<_};
 ghost use lib.ListN.{length};

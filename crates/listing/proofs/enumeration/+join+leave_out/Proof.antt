@@ -20,7 +20,7 @@ use Rattle.listing.proofs.enumeration.+join+leave_out.Lts-join as join-
 use Rattle.listing.proofs.enumeration.leave_out.Reads as leave-out
 use Rattle.listing.proofs.enumeration.leave_out.Kinds as leave-out-kinds
 use Rattle.listing.proofs.enumeration.+join+leave_out.Lts-leave_out as leave-out-lts
-use Rattle.bitset.proofs.node_set.NodeSet.contains.Reads as contains-reads
+use Rattle.node_set.proofs.NodeSet.contains.Reads as contains-reads
 use Rattle.listing.proofs.enumeration.candidate.Reads as candidate-reads
 use Rattle.listing.proofs.enumeration.is_open.Reads as is-open-reads
 use Rattle.listing.proofs.enumeration.joined.Reads as joined-reads

@@ -1,0 +1,2 @@
+-- The definitions that the contracts of `codec` cite.
+pub mod Format

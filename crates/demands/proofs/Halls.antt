@@ -1,0 +1,86 @@
+-- The starred halls: the test of the table passes, and so all that the table says of each hall holds by the definitions.
+-- Assumes nothing.
+use mathlib.Core.Path.{_≡_, refl, ap₂}
+use mathlib.Core.Bool.{Bool, true, false, _&&_, Bool·beq}
+use mathlib.Core.List.{List, [], _∷_, List·Memᴰ}
+use mathlib.Core.Logic.{_↔_, Iff·rfl, Iff·trans}
+use Prim.Native.Nat.{ℕ}
+use lib.Dec.{T, eqb}
+use Rattle.bitset.specs.Members.{has, insert, _∖_, size, subsets}
+use Rattle.rows.specs.Permutation.{countIf}
+use Rattle.rows.specs.Widths.{tabulate, widthsOf}
+use Rattle.network.specs.declared.Network.{Network}
+use Rattle.network.specs.Record.{_when_, _then_, sizeFault, pairFault, bare, withEdge}
+use Rattle.codec.specs.Format.{numberFault, sizeRefusal, terminalsRefusal, edgeRefusal, endRefusal, sizeStep, terminalsStep, edgeStep, edges, afterTerminals, afterSize, decodeOf}
+use Rattle.codec.proofs.Reading.{accepts, decode-plan}
+use Rattle.graph.specs.Cuts.{only, Cut, Mincut}
+use Rattle.graph.specs.MemberList.{membersFrom}
+use Rattle.graph.specs.Reach.{addIf, across, roundOver, rounds, reachOf}
+use Rattle.graph.specs.CutTests.{severed, every, cutTest, allNeeded, mincutTest}
+use Rattle.graph.specs.Relevant.{chosen, edgesAt, edgesWithin, past, pastAll, relevantNodes, relevantEdges, sourceSideOf}
+use Rattle.graph.proofs.Tests.{T-and, T-eqb, T-every}
+use Rattle.graph.proofs.Sound.{Sound, accepted-sound}
+use Rattle.graph.proofs.Cuts.{cutTest-iff, mincutTest-iff}
+use Rattle.listing.specs.List.{passing, mincuts, sourceSides}
+use Rattle.demands.specs.Halls.{Judged, Hall, bridge, barCable, spur, hangingTriangle, noCable, twoCables, inARow, exchanged, halls, networkOf, widthTable, same, judgedTest, hallTest, Established}
+use Rattle.demands.proofs.DemandTwo.{mincuts-complete}
+
+-- ---- the test is right
+
+-- Lists that the test finds equal are equal.
+T-same : (l m : List ℕ) → T (same l m) → l ≡ m
+unfolding same
+T-same [] [] t = refl
+T-same [] (y ∷ m) t = absurd t
+T-same (x ∷ l) [] t = absurd t
+T-same (x ∷ l) (y ∷ m) t = let p = T-and (eqb x y) (same l m) .0 t in ap₂ _∷_ (T-eqb x y .0 (p .0)) (T-same l m (p .1))
+
+-- Answers that are equal hold together.
+T-beq : (a b : Bool) → T (Bool·beq a b) → T b ↔ T a
+T-beq true true t = Iff·rfl
+T-beq true false t = absurd t
+T-beq false true t = absurd t
+T-beq false false t = Iff·rfl
+
+-- A judged set that passes is what the table says.
+judged-right : (N : Network) → Sound N → (j : Judged) → T (judgedTest N j) → (T (j .cut) ↔ Cut N (j .set)) × (T (j .mincut) ↔ Mincut N (j .set))
+unfolding judgedTest
+judged-right N S j t =
+    let p = T-and (Bool·beq (cutTest N (j .set)) (j .cut)) (Bool·beq (mincutTest N (j .set)) (j .mincut)) .0 t in (
+      Iff·trans (T-beq (cutTest N (j .set)) (j .cut) (p .0)) (cutTest-iff N (S .bounded) (j .set)),
+      Iff·trans (T-beq (mincutTest N (j .set)) (j .mincut) (p .1)) (mincutTest-iff N (S .bounded) (j .set)),
+    )
+
+-- A hall that passes is what the table says.
+hall-right : (h : Hall) → T (hallTest h) → Established h
+unfolding hallTest
+hall-right h t =
+    let N : Network = networkOf h in
+    let widths : Bool = same (widthsOf (h .cuts)) (widthTable h) in
+    let sets : Bool = every (judgedTest N) (h .judged) in
+    let sides : Bool = same (sourceSides N) (h .sides) in
+    let cuts : Bool = same (mincuts N) (h .cuts) in
+    let (read, t₁) = T-and (eqb (decodeOf (h .plan) .refusal) 0) (cuts && (sides && (sets && widths))) .0 t in
+    let (t-cuts, t₂) = T-and cuts (sides && (sets && widths)) .0 t₁ in
+    let (t-sides, t₃) = T-and sides (sets && widths) .0 t₂ in
+    let (t-sets, t-widths) = T-and sets widths .0 t₃ in
+    let ok : decodeOf (h .plan) .refusal ≡ 0 = T-eqb (decodeOf (h .plan) .refusal) 0 .0 read in
+    let plan = decode-plan (h .plan) N (accepts (h .plan) ok) in
+    let S : Sound N = accepted-sound N (plan .stored) (plan .accepted) in
+    record {
+      accepted = ok;
+      complete = rw (← T-same (mincuts N) (h .cuts) t-cuts, ← T-same (sourceSides N) (h .sides) t-sides) (mincuts-complete N S);
+      judged = λ j m. judged-right N S j (T-every (judgedTest N) (h .judged) .0 t-sets j m);
+      widths = T-same (widthsOf (h .cuts)) (widthTable h) t-widths;
+    }
+
+-- ---- the table
+
+-- Every hall of the table passes the test.
+halls-pass : T (every hallTest halls)
+unfolding has insert _∖_ size subsets countIf tabulate widthsOf _when_ _then_ sizeFault pairFault bare withEdge numberFault sizeRefusal terminalsRefusal edgeRefusal endRefusal sizeStep terminalsStep edgeStep edges afterTerminals afterSize decodeOf only membersFrom addIf across roundOver rounds reachOf severed every cutTest allNeeded mincutTest chosen edgesAt edgesWithin past pastAll relevantNodes relevantEdges sourceSideOf passing mincuts bridge barCable spur hangingTriangle noCable twoCables inARow exchanged halls same judgedTest hallTest
+halls-pass = tt
+
+-- So what it says of each hall is established.
+pub halls-established : (h : Hall) → List·Memᴰ h halls → Established h
+halls-established h m = hall-right h (T-every hallTest halls .0 halls-pass h m)

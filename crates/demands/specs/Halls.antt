@@ -1,0 +1,161 @@
+-- The starred halls of the paper ("Halls to try"): a table, and the test of it, which computes.
+--
+--   Judged               a judged set: its number, whether it is a cut, and whether it is a mincut
+--   Hall                 a plan in bytes, its cuts and sides, the sets judged on it, and how many cuts have width 0, 1, ..
+--   halls                the table; sides and widths that the paper leaves out are worked out by hand
+--   networkOf h          the record read from the bytes
+--   widthTable h         the 65 counts of the width table
+--   same l m             whether two lists are equal
+--   judgedTest N j       whether what the table says of a judged set is what is computed
+--   hallTest h           whether all that the table says of a hall is what is computed from its bytes
+--   Established h        what the table says of a hall, by the definitions
+use mathlib.Core.Bool.{Bool, true, false, _&&_, Bool·beq}
+use mathlib.Core.List.{List, [], _∷_, _++_, List·Memᴰ}
+use mathlib.Core.Logic.{_↔_}
+use mathlib.Core.Path.{_≡_}
+use Prim.Native.Nat.{ℕ, _-_}
+use lib.Dec.{T, eqb}
+use lib.ListN.{length, replicate}
+use Rattle.rows.specs.Widths.{widthsOf}
+use Rattle.network.specs.declared.Network.{Network}
+use Rattle.codec.specs.Format.{decodeOf}
+use Rattle.graph.specs.Cuts.{Cut, Mincut}
+use Rattle.graph.specs.CutTests.{every, cutTest, mincutTest}
+use Rattle.listing.specs.List.{mincuts, sourceSides}
+use Rattle.demands.specs.Lists.{CompleteList}
+
+pub record Judged : Type 0 where
+  pub set : ℕ
+  pub cut : Bool
+  pub mincut : Bool
+
+pub record Hall : Type 0 where
+  pub plan : List ℕ
+  pub cuts : List ℕ
+  pub sides : List ℕ
+  pub judged : List Judged
+  pub widths : List ℕ
+
+-- ---- the table
+
+-- The server is point 0 in every hall, and a hall has as many points as its cables need.
+
+-- Judged on it: 9 no cut, 7 not minimal, 14 minimal. Widths: two of 2, two of 3.
+unfoldable pub bridge : Hall
+bridge = record {
+  plan = 0x50 ∷ 4 ∷ 0x53 ∷ 0 ∷ 3 ∷ 0x43 ∷ 0 ∷ 0 ∷ 1 ∷ 0x43 ∷ 1 ∷ 0 ∷ 2 ∷ 0x43 ∷ 2 ∷ 1 ∷ 2 ∷ 0x43 ∷ 3 ∷ 1 ∷ 3 ∷ 0x43 ∷ 4 ∷ 2 ∷ 3 ∷ 0x45 ∷ [];
+  cuts = 3 ∷ 14 ∷ 21 ∷ 24 ∷ [];
+  sides = 1 ∷ 3 ∷ 5 ∷ 7 ∷ [];
+  judged =
+      record { set = 9; cut = false; mincut = false }
+      ∷ record { set = 7; cut = true; mincut = false }
+      ∷ record { set = 14; cut = true; mincut = true }
+      ∷ [];
+  widths = 0 ∷ 0 ∷ 2 ∷ 2 ∷ [];
+}
+
+-- Room 3, cables 0: 0-1, 1: 0-2, 2: 1-2, 3: 1-3.
+unfoldable pub barCable : Hall
+barCable = record {
+  plan = 0x50 ∷ 4 ∷ 0x53 ∷ 0 ∷ 3 ∷ 0x43 ∷ 0 ∷ 0 ∷ 1 ∷ 0x43 ∷ 1 ∷ 0 ∷ 2 ∷ 0x43 ∷ 2 ∷ 1 ∷ 2 ∷ 0x43 ∷ 3 ∷ 1 ∷ 3 ∷ 0x45 ∷ [];
+  cuts = 3 ∷ 5 ∷ 8 ∷ [];
+  sides = 1 ∷ 5 ∷ 7 ∷ [];
+  judged = [];
+  widths = 0 ∷ 1 ∷ 2 ∷ [];
+}
+
+-- Room 2, cables 0: 0-1, 1: 1-2, 2: 1-3.
+unfoldable pub spur : Hall
+spur = record {
+  plan = 0x50 ∷ 4 ∷ 0x53 ∷ 0 ∷ 2 ∷ 0x43 ∷ 0 ∷ 0 ∷ 1 ∷ 0x43 ∷ 1 ∷ 1 ∷ 2 ∷ 0x43 ∷ 2 ∷ 1 ∷ 3 ∷ 0x45 ∷ [];
+  cuts = 1 ∷ 2 ∷ [];
+  sides = 1 ∷ 3 ∷ [];
+  judged = [];
+  widths = 0 ∷ 2 ∷ [];
+}
+
+-- Room 2, cables 0: 0-1, 1: 1-2, 2: 1-3, 3: 3-4, 4: 4-1.
+unfoldable pub hangingTriangle : Hall
+hangingTriangle = record {
+  plan = 0x50 ∷ 5 ∷ 0x53 ∷ 0 ∷ 2 ∷ 0x43 ∷ 0 ∷ 0 ∷ 1 ∷ 0x43 ∷ 1 ∷ 1 ∷ 2 ∷ 0x43 ∷ 2 ∷ 1 ∷ 3 ∷ 0x43 ∷ 3 ∷ 3 ∷ 4 ∷ 0x43 ∷ 4 ∷ 4 ∷ 1 ∷ 0x45 ∷ [];
+  cuts = 1 ∷ 2 ∷ [];
+  sides = 1 ∷ 3 ∷ [];
+  judged = [];
+  widths = 0 ∷ 2 ∷ [];
+}
+
+-- Two points, no cable.
+unfoldable pub noCable : Hall
+noCable = record {
+  plan = 0x50 ∷ 2 ∷ 0x53 ∷ 0 ∷ 1 ∷ 0x45 ∷ [];
+  cuts = 0 ∷ [];
+  sides = 1 ∷ [];
+  judged = [];
+  widths = 1 ∷ [];
+}
+
+-- Two points, cables 0 and 1.
+unfoldable pub twoCables : Hall
+twoCables = record {
+  plan = 0x50 ∷ 2 ∷ 0x53 ∷ 0 ∷ 1 ∷ 0x43 ∷ 0 ∷ 0 ∷ 1 ∷ 0x43 ∷ 1 ∷ 0 ∷ 1 ∷ 0x45 ∷ [];
+  cuts = 3 ∷ [];
+  sides = 1 ∷ [];
+  judged = [];
+  widths = 0 ∷ 0 ∷ 1 ∷ [];
+}
+
+-- Room 2, 0-1 by cable 0 and 1-2 by cable 1; and the same with the cables exchanged.
+unfoldable pub inARow : Hall
+inARow = record {
+  plan = 0x50 ∷ 3 ∷ 0x53 ∷ 0 ∷ 2 ∷ 0x43 ∷ 0 ∷ 0 ∷ 1 ∷ 0x43 ∷ 1 ∷ 1 ∷ 2 ∷ 0x45 ∷ [];
+  cuts = 1 ∷ 2 ∷ [];
+  sides = 1 ∷ 3 ∷ [];
+  judged = [];
+  widths = 0 ∷ 2 ∷ [];
+}
+
+unfoldable pub exchanged : Hall
+exchanged = record {
+  plan = 0x50 ∷ 3 ∷ 0x53 ∷ 0 ∷ 2 ∷ 0x43 ∷ 0 ∷ 1 ∷ 2 ∷ 0x43 ∷ 1 ∷ 0 ∷ 1 ∷ 0x45 ∷ [];
+  cuts = 1 ∷ 2 ∷ [];
+  sides = 3 ∷ 1 ∷ [];
+  judged = [];
+  widths = 0 ∷ 2 ∷ [];
+}
+
+unfoldable pub halls : List Hall
+halls = bridge ∷ barCable ∷ spur ∷ hangingTriangle ∷ noCable ∷ twoCables ∷ inARow ∷ exchanged ∷ []
+
+-- ---- the test
+
+abbrev pub networkOf : Hall → Network
+networkOf h = decodeOf (h .plan) .network
+
+-- No cut is wider than the table says.
+abbrev pub widthTable : Hall → List ℕ
+widthTable h = h .widths ++ replicate (65 - length (h .widths)) 0
+
+unfoldable pub same : List ℕ → List ℕ → Bool
+same [] [] = true
+same [] (y ∷ m) = false
+same (x ∷ l) [] = false
+same (x ∷ l) (y ∷ m) = eqb x y && same l m
+
+unfoldable pub judgedTest : Network → Judged → Bool
+judgedTest N j = Bool·beq (cutTest N (j .set)) (j .cut) && Bool·beq (mincutTest N (j .set)) (j .mincut)
+
+unfoldable pub hallTest : Hall → Bool
+hallTest h =
+    eqb (decodeOf (h .plan) .refusal) 0
+    && (same (mincuts (networkOf h)) (h .cuts)
+    && (same (sourceSides (networkOf h)) (h .sides)
+    && (every (judgedTest (networkOf h)) (h .judged)
+    && same (widthsOf (h .cuts)) (widthTable h))))
+
+-- ---- what it establishes
+
+pub record Established (h : Hall) : Type 0 where
+  pub accepted : decodeOf (h .plan) .refusal ≡ 0
+  pub complete : CompleteList (networkOf h) (length (h .cuts)) (h .cuts) (h .sides)
+  pub judged : (j : Judged) → List·Memᴰ j (h .judged) → (T (j .cut) ↔ Cut (networkOf h) (j .set)) × (T (j .mincut) ↔ Mincut (networkOf h) (j .set))
+  pub widths : widthsOf (h .cuts) ≡ widthTable h
