@@ -13,8 +13,8 @@ use denote.Floats.{is-true, passes}
 use lib.Arith.{lt-of-le-ne, lt-one}
 use lib.Bits.{bitAnd, and-le-r}
 use lib.Dec.{T}
+use Rattle.lists.specs.Rising.{Rising}
 use Rattle.bitset.specs.Members.{has, _⊆_, insert, subsets}
-use Rattle.bitset.specs.Rising.{Rising}
 use Rattle.bitset.proofs.Members.{same-members, has-zero, has-and, has-insert, has-inserted, has-bounded, eqb-cases}
 
 -- Every set is a subset of itself.

@@ -84,15 +84,16 @@ subset-test s t = record {
   fails = λ e h. eqb-false (bitAnd s t) s e (subset-and s t .0 h);
 }
 
+-- Of a set with members, the lowest is below the width.
+pub lowest-below : (w : ℕ) {s : ℕ} → s < 2 ^ w → ¬ (s ≡ 0) → (j : ℕ) → Lowest w s j → j < w
+lowest-below w {s} h some j low =
+    lt-of-le-ne (low .within) (λ e.
+    some (same-members-below w h (pow-pos w) (λ k l. lowest-none w s j low .0 e k l ∙ sym (has-zero k))))
+
 -- Of a set with members, the common members with the number before are all but the lowest.
 pub has-less-lowest : (w : ℕ) {s : ℕ} → s < 2 ^ w → ¬ (s ≡ 0) → (j : ℕ) → Lowest w s j → (k : ℕ)
     → has (bitAnd s (s - 1)) k ≡ has s k && not (eqb k j)
-has-less-lowest w {s} h some j low = has-without-lowest j s (low .member below) (low .none-below)
-  where
-    below : j < w
-    below =
-        lt-of-le-ne (low .within) (λ e.
-        some (same-members-below w h (pow-pos w) (λ k l. lowest-none w s j low .0 e k l ∙ sym (has-zero k))))
+has-less-lowest w {s} h some j low = has-without-lowest j s (low .member (lowest-below w h some j low)) (low .none-below)
 
 -- Of a set without members none can be taken away.
 pub has-less-none : (s : ℕ) → s ≡ 0 → (k : ℕ) (b : Bool) → has s k ≡ has s k && b

@@ -1,4 +1,3 @@
 -- The definitions that the contracts of `bitset` cite.
 pub mod Decides
 pub mod Members
-pub mod Rising

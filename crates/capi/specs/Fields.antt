@@ -11,8 +11,8 @@ use mathlib.Core.Path.{_≡_}
 use Prim.Native.Nat.{ℕ}
 use Rattle.network.specs.declared.Network.{Network}
 use Rattle.codec.specs.Format.{decodeOf, encodedBy, bytesAfter}
-use Rattle.listing.specs.List.{listedBy, cutRowsAfter, sideRowsAfter}
 use Rattle.reach.specs.Answers.{relevantOf, verdictOf, refusalNumber, verdictNumber}
+use Rattle.listing.specs.List.{listedBy, cutRowsAfter, sideRowsAfter}
 
 abbrev pub assembled : ℕ → ℕ → ℕ → ℕ → List ℕ → List ℕ → Network
 assembled nodes source sink present first second = record {

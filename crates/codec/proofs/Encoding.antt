@@ -7,8 +7,8 @@ use native.Mathlib.Omega.{arith}
 use lib.ListN.{length, take, drop, set, length-drop}
 use lib.Seq.{sets, take-length, drop-drop, drop-at, length-take-le, length-sets}
 use Rattle.network.specs.declared.Network.{Network}
-use Rattle.codec.specs.declared.Encoded.{Encoded}
 use Rattle.network.specs.Record.{unlessRefused}
+use Rattle.codec.specs.declared.Encoded.{Encoded}
 use Rattle.codec.specs.Format.{encodeOf, encodeRefusal, encodeAnswer, encodedBy, bytesAfter, WrittenTo}
 use Rattle.codec.proofs.Writing.{rest, rest-all, written-length, written-next, next-room, encode-size}
 

@@ -10,12 +10,12 @@ use lib.Dec.{eqb}
 use lib.ListN.{length, getD, drop, length-drop, List·getD-eq-default}
 use lib.Seq.{getD-drop}
 use borrow.Author.Tests.{lt-ltb, le-ltb, eq-eqb, ne-eqb}
+use Rattle.network.specs.Record.{_then_, sizeFault, terminalFault, endFault}
+use Rattle.network.proofs.Refusals.{none-then, some-then, some-when, none-when}
 use Rattle.codec.specs.declared.SizeStep.{SizeStep}
 use Rattle.codec.specs.declared.TerminalsStep.{TerminalsStep}
 use Rattle.codec.specs.declared.EdgeStep.{EdgeStep}
-use Rattle.network.specs.Record.{_then_, sizeFault, terminalFault, endFault}
 use Rattle.codec.specs.Format.{at, missing, unfit, numberFault, sizeRefusal, terminalsRefusal, edgeRefusal, endRefusal, sizeAnswer, terminalsAnswer, edgeAnswer, sizeStep, terminalsStep, edgeStep}
-use Rattle.network.proofs.Refusals.{none-then, some-then, some-when, none-when}
 use Rattle.codec.proofs.Steps.{command, command-values, none-missing, none-unfit}
 
 -- The byte at an offset is the first of what is left there.

@@ -10,12 +10,12 @@ use native.Mathlib.Omega.{arith}
 use lib.ListN.{length, drop, getD-replicate}
 use Rattle.bitset.proofs.Members.{has-zero}
 use Rattle.network.specs.declared.Network.{Network}
-use Rattle.codec.specs.declared.Decoded.{Decoded}
 use Rattle.network.specs.Record.{Stored, Slot, slot, rising, slotFault, endFault, sizeFault, absentFault, faultOf, bare, withEdge, hasEdge, firstEnd, secondEnd, noNetwork}
+use Rattle.network.proofs.Slots.{empty, slotFault-of, withEdge-same, withEdge-other, withEdge-stored, accepted-none}
+use Rattle.codec.specs.declared.Decoded.{Decoded}
 use Rattle.codec.specs.Format.{edges, accept, refuse, edgeCommand, encodeOf, decodeOf, afterSize, afterTerminals, terminalsStep}
 use Rattle.codec.proofs.Steps.{EdgeView, edge, end, edge-view, SizeView, size, size-view, TerminalsView, terminals, terminals-view}
 use Rattle.codec.proofs.Walk.{edges-edge, edges-end, edges-refused}
-use Rattle.network.proofs.Slots.{empty, slotFault-of, withEdge-same, withEdge-other, withEdge-stored, accepted-none}
 use Rattle.codec.proofs.Commands.{command-of, commands-skip}
 
 -- The slots of N from `next` on are empty.

@@ -8,12 +8,12 @@ use native.Mathlib.Omega.{arith}
 use lib.Dec.{ltb, eqb}
 use lib.ListN.{length, drop}
 use borrow.Author.Tests.{le-ltb, eq-eqb, ltb-false, eqb-true, not-false}
+use Rattle.network.specs.Record.{_when_, _then_, sizeFault, pairFault, terminalFault, endFault}
+use Rattle.network.proofs.Refusals.{then-none, none-then, when-none, none-when, then-bounded, when-bounded}
 use Rattle.codec.specs.declared.SizeStep.{SizeStep}
 use Rattle.codec.specs.declared.TerminalsStep.{TerminalsStep}
 use Rattle.codec.specs.declared.EdgeStep.{EdgeStep}
-use Rattle.network.specs.Record.{_when_, _then_, sizeFault, pairFault, terminalFault, endFault}
 use Rattle.codec.specs.Format.{at, missing, unfit, numberFault, sizeRefusal, terminalsRefusal, edgeRefusal, endRefusal, sizeStep, terminalsStep, edgeStep}
-use Rattle.network.proofs.Refusals.{then-none, none-then, when-none, none-when, then-bounded, when-bounded}
 
 -- ---- the rules that every command shares
 

@@ -7,9 +7,9 @@ use native.Mathlib.Nat.{le-refl}
 use native.Mathlib.Omega.{arith}
 use lib.ListN.{length, drop, length-drop}
 use Rattle.network.specs.declared.Network.{Network}
+use Rattle.network.specs.Record.{_when_, _then_, withEdge}
 use Rattle.codec.specs.declared.Decoded.{Decoded}
 use Rattle.codec.specs.declared.EdgeStep.{EdgeStep}
-use Rattle.network.specs.Record.{_when_, _then_, withEdge}
 use Rattle.codec.specs.Format.{edges, edgeStep, edgeRefusal, accept, refuse, walk, endedBy, edgeNumber}
 use Rattle.codec.proofs.Steps.{EdgeView, edge, end, edge-view}
 

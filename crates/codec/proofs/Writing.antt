@@ -16,11 +16,11 @@ use Rattle.bitset.specs.Members.{has, insert, size}
 use Rattle.bitset.proofs.Members.{has-insert, has-mod, same-members}
 use Rattle.network.specs.declared.Network.{Network}
 use Rattle.network.specs.Record.{Stored, Slot, slot, rising, slots, slotFault, endFault, absentFault, faultOf, bare, withEdge, hasEdge, firstEnd, secondEnd}
-use Rattle.codec.specs.Format.{edges, accept, commandOf, edgeCommand, WrittenTo, encodeOf, decodeOf, afterSize, afterTerminals}
 use Rattle.network.proofs.Refusals.{when-none, or-none}
+use Rattle.network.proofs.Slots.{empty, accepted}
+use Rattle.codec.specs.Format.{edges, accept, commandOf, edgeCommand, WrittenTo, encodeOf, decodeOf, afterSize, afterTerminals}
 use Rattle.codec.proofs.Steps.{size-taken, terminals-taken, edge-taken, end-taken}
 use Rattle.codec.proofs.Walk.{edges-edge, edges-end}
-use Rattle.network.proofs.Slots.{empty, accepted}
 use Rattle.codec.proofs.Commands.{command-absent}
 
 -- The first k of 64 ends, the others 0.

@@ -15,12 +15,12 @@ use Prim.Native.Nat.{ℕ, zero, suc, _≤_}
 use lib.Dec.{ltb, eqb}
 use lib.ListN.{length, getD, take, drop}
 use Rattle.network.specs.declared.Network.{Network}
+use Rattle.network.specs.Record.{_when_, _then_, unlessRefused, sizeFault, terminalFault, endFault, faultOf, slots, Slot, slot, bare, noNetwork, withEdge}
 use Rattle.codec.specs.declared.Decoded.{Decoded}
 use Rattle.codec.specs.declared.Encoded.{Encoded}
 use Rattle.codec.specs.declared.SizeStep.{SizeStep}
 use Rattle.codec.specs.declared.TerminalsStep.{TerminalsStep}
 use Rattle.codec.specs.declared.EdgeStep.{EdgeStep}
-use Rattle.network.specs.Record.{_when_, _then_, unlessRefused, sizeFault, terminalFault, endFault, faultOf, slots, Slot, slot, bare, noNetwork, withEdge}
 
 -- ---- a command
 

@@ -4,18 +4,17 @@ use mathlib.Core.Path.{_≡_, refl, sym, ap, _∙_}
 use mathlib.Core.Logic.{inl, inr, _↔_}
 use Prim.Native.Nat.{ℕ, _^_}
 use lib.Bits.{bitOr, bitXor, or-zero-l}
-use Rattle.bitset.specs.Members.{_⊆_, insert, _∖_}
-use Rattle.bitset.proofs.Members.{has-zero, insert-or}
+use Rattle.bitset.specs.Members.{_⊆_, insert, _∖_, _∈_}
 use Rattle.bitset.proofs.Subsets.{zero-⊆, ⊆-insert}
+use Rattle.bitset.proofs.Sets.{in-insert, in-minus, in-single, in-drop, same-set, insert-zero, not-insert, not-zero}
 use Rattle.network.specs.declared.Network.{Network}
 use Rattle.graph.specs.Reach.{round}
 use Rattle.graph.specs.Relevant.{reachIn, edgesAt, relevantNodes, boundaryOf}
 use Rattle.graph.specs.Cuts.{only}
-use Rattle.graph.proofs.Sets.{_∈_, in-insert, in-minus, in-single, in-drop}
 use Rattle.graph.proofs.Reach.{in-round}
 use Rattle.graph.proofs.Sound.{Sound}
 use Rattle.graph.proofs.Relevant.{in-relevantNodes}
-use Rattle.graph.proofs.Correspondence.{same-set, in-boundaryOf}
+use Rattle.graph.proofs.Correspondence.{in-boundaryOf}
 use Rattle.cuts.specs.declared.Branch.{Branch}
 use Rattle.cuts.specs.Enumeration.{relevantPart, blank, start, joined, leftOut}
 use Rattle.cuts.proofs.ReachIn.{reachIn-start, reachIn-⊆, reachIn-over, reachIn-mono, reachIn-same}
@@ -38,21 +37,6 @@ pub record Grown (N : Network) (b : Branch) : Type 0 where
 pub record Open (N : Network) (b : Branch) : Type 0 where
   pub grown : Grown N b
   pub reached : b .out .0 ⊆ b .rest .0
-
--- The empty set has no member.
-pub not-zero : (k : ℕ) → k ∈ 0 → ⊥
-not-zero k m = rw (has-zero k) at m
-
--- To insert into the empty set gives the one member.
-insert-zero : (k : ℕ) → insert 0 k ≡ 2 ^ k
-insert-zero k = insert-or 0 k ∙ or-zero-l (2 ^ k)
-
--- What is no member after an insertion.
-not-insert : (s v k : ℕ) → (k ∈ insert s v → ⊥) ↔ ((k ∈ s → ⊥) × (k ≡ v → ⊥))
-not-insert s v k = (
-  λ n. (λ m. n (in-insert s v k .1 (inl m)), λ e. n (in-insert s v k .1 (inr e))),
-  λ n m. elim (in-insert s v k .0 m) [ inl l ↦ n .0 l | inr e ↦ n .1 e ],
-)
 
 module _ (N : Network) (S : Sound N) where
   -- The sink is a relevant node.

@@ -11,20 +11,20 @@ use lib.Dec.{T}
 use lib.ListN.{length}
 use Rattle.bitset.specs.Members.{_∖_, size}
 use Rattle.bitset.proofs.Subsets.{zero-⊆}
+use Rattle.bitset.proofs.Sets.{in-insert, in-drop, not-zero, size-drop}
 use Rattle.network.specs.declared.Network.{Network}
 use Rattle.graph.specs.Paths.{Minpath, Distinct}
 use Rattle.graph.specs.Cuts.{Mincut}
 use Rattle.graph.specs.SourceSides.{SourceSide}
 use Rattle.graph.specs.Relevant.{relevantNodes, sourceSideOf, boundaryOf}
-use Rattle.graph.proofs.Sets.{in-insert, in-drop}
 use Rattle.graph.proofs.Cuts.{mincut-none}
 use Rattle.graph.proofs.Sound.{Sound}
 use Rattle.graph.proofs.Relevant.{in-relevantNodes}
 use Rattle.graph.proofs.Correspondence.{side-of-mincut, mincut-of-side, side-none}
 use Rattle.cuts.specs.Enumeration.{relevantPart, blank, joined, start, isOpen, Row, cutsOf, rowsIf, joinRows, rows}
-use Rattle.cuts.proofs.Branches.{Open, sink-relevant, start-grown, not-zero}
+use Rattle.cuts.proofs.Branches.{Open, sink-relevant, start-grown}
 use Rattle.cuts.proofs.Halves.{Within}
-use Rattle.cuts.proofs.Recursion.{size-drop, rows-bound}
+use Rattle.cuts.proofs.Recursion.{rows-bound}
 use Rattle.cuts.proofs.Rows.{open-test, Listed, rows-listed}
 
 -- A list that has no cut twice, and no row but q, is that row alone.

@@ -4,14 +4,14 @@ use mathlib.Core.Path.{_≡_, refl}
 use mathlib.Core.Logic.{_⊎_, inl, inr, _↔_}
 use Prim.Native.Nat.{ℕ}
 use native.Mathlib.Decide.{ℕ-discrete}
-use Rattle.bitset.specs.Members.{_⊆_, _∖_}
+use Rattle.bitset.specs.Members.{_⊆_, _∖_, _∈_}
 use Rattle.bitset.proofs.Subsets.{⊆-refl, ⊆-antisym, ⊆-insert}
+use Rattle.bitset.proofs.Sets.{∈-dec, in-insert, in-minus}
 use Rattle.network.specs.declared.Network.{Network}
 use Rattle.graph.specs.Paths.{Joins}
 use Rattle.graph.specs.Cuts.{RelevantEdge, RelevantNode}
 use Rattle.graph.specs.SourceSides.{SourceSide}
 use Rattle.graph.specs.Relevant.{relevantNodes}
-use Rattle.graph.proofs.Sets.{_∈_, ∈-dec, in-insert, in-minus}
 use Rattle.graph.proofs.Walks.{joins-sym}
 use Rattle.graph.proofs.Nodes.{carried}
 use Rattle.graph.proofs.Reach.{in-round}

@@ -2,31 +2,26 @@
 -- Assumes a sound network.
 use mathlib.Core.Path.{_≡_, refl, sym, ap, ap₂, _∙_}
 use mathlib.Core.Bool.{Bool, true, false, xor, _&&_, _||_}
-use mathlib.Core.Logic.{_⊎_, inl, inr, _↔_}
+use mathlib.Core.Logic.{inl, inr, _↔_}
 use Prim.Native.Nat.{ℕ, _^_}
 use lib.Bits.{bitOr, bitXor}
 use lib.Dec.{T, eqb, ltb, ltb→lt, lt→ltb}
-use Rattle.bitset.specs.Members.{has, _⊆_, insert}
-use Rattle.bitset.proofs.Members.{same-members, has-or, has-xor, has-insert}
+use Rattle.bitset.specs.Members.{has, _⊆_, insert, _∈_}
+use Rattle.bitset.proofs.Members.{same-members, has-xor, has-insert}
 use Rattle.bitset.proofs.Subsets.{same-test, ⊆-insert}
+use Rattle.bitset.proofs.Tests.{T-and, T-eqb}
+use Rattle.bitset.proofs.Sets.{in-insert, in-single, same-set, in-or}
 use Rattle.network.specs.declared.Network.{Network}
 use Rattle.network.specs.Record.{firstEnd, secondEnd}
 use Rattle.graph.specs.Paths.{Joins}
 use Rattle.graph.specs.Cuts.{only}
-use Rattle.graph.specs.Reach.{round, reachOf}
+use Rattle.graph.specs.Reach.{round, reachOf, Bounded}
 use Rattle.graph.specs.Relevant.{chosen, edgesAt, edgesWithin, reachIn, relevantNodes, relevantEdges, boundaryOf}
-use Rattle.graph.proofs.Tests.{T-and, T-or, T-eqb}
-use Rattle.graph.proofs.Sets.{_∈_, in-insert, in-single}
 use Rattle.graph.proofs.Walks.{joins-sym, joins-ends}
-use Rattle.graph.proofs.Reach.{Bounded, in-round, round-mono, bounded-only}
+use Rattle.graph.proofs.Reach.{in-round, round-mono, bounded-only}
 use Rattle.graph.proofs.EdgeSets.{in-chosen, joins-stored, in-edgesWithin}
 use Rattle.graph.proofs.Sound.{Sound}
-use Rattle.graph.proofs.Correspondence.{same-set}
 use Rattle.cuts.specs.Enumeration.{relevantPart}
-
--- The members of either.
-pub in-or : (s t k : ℕ) → (k ∈ bitOr s t) ↔ ((k ∈ s) ⊎ (k ∈ t))
-in-or s t k = rw (has-or s t k) (T-or (has s k) (has t k))
 
 module _ (N : Network) (S : Sound N) where
   -- The edges of the relevant part are present.

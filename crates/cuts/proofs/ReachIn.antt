@@ -4,16 +4,15 @@ use mathlib.Core.Path.{_≡_, refl}
 use mathlib.Core.List.{[], _∷_, List·Memᴰ·eq-of-singleton, List·Memᴰ·cases-cons}
 use mathlib.Core.Logic.{inl, inr}
 use Prim.Native.Nat.{ℕ}
-use Rattle.bitset.specs.Members.{_⊆_}
+use Rattle.bitset.specs.Members.{_⊆_, _∈_}
 use Rattle.bitset.proofs.Subsets.{⊆-antisym}
 use Rattle.network.specs.declared.Network.{Network}
+use Rattle.graph.specs.Reach.{Bounded}
 use Rattle.graph.specs.Paths.{Joins, Leads}
 use Rattle.graph.specs.Relevant.{reachIn}
 use Rattle.graph.specs.SourceSides.{Inside}
-use Rattle.graph.proofs.Sets.{_∈_}
 use Rattle.graph.proofs.Walks.{joins-sym, end-met, ends-met}
 use Rattle.graph.proofs.Nodes.{carried}
-use Rattle.graph.proofs.Reach.{Bounded}
 use Rattle.graph.proofs.Inside.{in-reachIn, inside-append}
 
 module _ (N : Network) (B : Bounded N) (u h : ℕ) (start : h ∈ u) where

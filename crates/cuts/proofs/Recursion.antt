@@ -1,45 +1,25 @@
 -- The recursion of the enumeration: what a branch gives by its candidate, an induction along it, and a bound on the number of rows.
 -- Assumes nothing.
-use mathlib.Core.Path.{_≡_, refl, sym, ap, _∙_}
+use mathlib.Core.Path.{_≡_, refl}
 use mathlib.Core.Bool.{Bool, true, false}
 use mathlib.Core.List.{[], _∷_, _++_}
-use mathlib.Core.Logic.{_⊎_, inl, inr}
 use Prim.Native.Nat.{ℕ, zero, suc, _^_, _≤_, _<_, zero-le}
 use native.Mathlib.Nat.{le-refl, lt-of-lt-of-le, pow-suc}
-use native.Mathlib.Decide.{ℕ-discrete, decLt}
+use native.Mathlib.Decide.{decLt}
 use native.Mathlib.Omega.{arith}
 use borrow.Author.Tests.{le-ltb, lt-ltb}
 use denote.Floats.{passes}
 use lib.Bits.{bitAnd}
 use lib.ListN.{length, length-append}
 use lib.Pow.{pow-pos}
-use Rattle.bitset.specs.Members.{has, insert, _∖_, size}
-use Rattle.bitset.proofs.Subsets.{same-test}
-use Rattle.bitset.proofs.Size.{size-insert, lowest-trailing}
+use Rattle.bitset.specs.Members.{has, _∖_, size, _∈_}
+use Rattle.bitset.proofs.Size.{lowest-trailing}
+use Rattle.bitset.proofs.Sets.{in-and, size-drop}
 use Rattle.network.specs.declared.Network.{Network}
-use Rattle.graph.proofs.Sets.{_∈_, in-insert, in-and, in-drop}
-use Rattle.graph.proofs.Correspondence.{same-set}
 use Rattle.cuts.specs.declared.Branch.{Branch}
 use Rattle.cuts.specs.Enumeration.{candidate, joined, leftOut, isOpen, rowOf, branchRows, rowsOf, rowsIf, joinRows, leaveOutRows}
 
 -- ---- the recursion
-
--- To take off a member is to have one fewer.
-pub size-drop : (w s v : ℕ) → v < w → v ∈ s → size w s ≡ suc (size w (s ∖ 2 ^ v))
-size-drop w s v h m = ap (size w) (sym whole) ∙ size-insert w (s ∖ 2 ^ v) v h lacks
-  where
-    lacks : has (s ∖ 2 ^ v) v ≡ false
-    lacks = same-test (has (s ∖ 2 ^ v) v) false (λ i. in-drop s v v .0 i .1 refl) absurd
-
-    back : (k : ℕ) → k ∈ s → Dec (k ≡ v) → (k ∈ (s ∖ 2 ^ v)) ⊎ (k ≡ v)
-    back k i (yes e) = inr e
-    back k i (no n) = inl (in-drop s v k .1 (i, n))
-
-    whole : insert (s ∖ 2 ^ v) v ≡ s
-    whole = same-set (λ k. (
-      λ i. elim (in-insert (s ∖ 2 ^ v) v k .0 i) [ inl l ↦ in-drop s v k .0 l .0 | inr e ↦ rw e m ],
-      λ i. in-insert (s ∖ 2 ^ v) v k .1 (back k i (ℕ-discrete k v)),
-    ))
 
 -- A candidate is an undecided node of the border.
 pub candidate-in : (b : Branch) → candidate b < 32 → (candidate b ∈ b .border .0) × (candidate b ∈ b .undecided .0)

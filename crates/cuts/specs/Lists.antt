@@ -4,7 +4,7 @@
 use mathlib.Core.List.{List, List·Memᴰ}
 use mathlib.Core.Logic.{_↔_}
 use Prim.Native.Nat.{ℕ}
-use Rattle.bitset.specs.Rising.{Rising}
+use Rattle.lists.specs.Rising.{Rising}
 use Rattle.network.specs.declared.Network.{Network}
 use Rattle.graph.specs.Cuts.{Mincut}
 

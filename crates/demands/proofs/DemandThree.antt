@@ -11,10 +11,10 @@ use Rattle.codec.proofs.Reading.{accepts, decode-plan}
 use Rattle.graph.specs.Paths.{SameMinpaths}
 use Rattle.cuts.proofs.Lists.{lists-equal}
 use Rattle.listing.specs.List.{mincuts, listedBy, cutRowsAfter}
-use Rattle.demands.specs.Lists.{SameList}
 use Rattle.listing.proofs.Mincuts.{mincuts-lists}
-use Rattle.demands.proofs.Places.{same-onto}
 use Rattle.listing.proofs.Call.{complete-call}
+use Rattle.demands.specs.Lists.{SameList}
+use Rattle.demands.proofs.Onto.{same-onto}
 
 -- A call that is complete was made on an accepted record, so that nothing is left to ask of the two but what their types say.
 pub demand-three : (N M : Network) → Stored N → Stored M → (cuts sides cuts′ sides′ : List ℕ)

@@ -6,17 +6,18 @@ use mathlib.Core.Logic.{Iff·trans, Iff·symm}
 use Prim.Native.Nat.{ℕ, _<_}
 use native.Mathlib.Nat.{lt-trans}
 use lib.ListN.{length, getD, length-map}
+use Rattle.lists.proofs.Places.{mem-place, getD-map}
+use Rattle.lists.proofs.Rising.{rising-places}
 use Rattle.network.specs.declared.Network.{Network}
 use Rattle.network.specs.Record.{Stored}
 use Rattle.graph.specs.Relevant.{sourceSideOf}
 use Rattle.graph.proofs.Sound.{Sound}
 use Rattle.graph.proofs.Correspondence.{in-sourceSideOf}
 use Rattle.listing.specs.List.{mincuts, sourceSides, onto, listedBy, cutRowsAfter, sideRowsAfter}
-use Rattle.demands.specs.Lists.{CompleteList}
 use Rattle.listing.proofs.Mincuts.{mincuts-lists}
-use Rattle.listing.proofs.Rows.{getD-map}
-use Rattle.demands.proofs.Places.{getD-onto, mem-place, rising-places}
 use Rattle.listing.proofs.Call.{complete-call}
+use Rattle.demands.specs.Lists.{CompleteList}
+use Rattle.demands.proofs.Onto.{getD-onto}
 
 -- The computed list is complete, each mincut beside its source side.
 pub mincuts-complete : (N : Network) → Sound N → CompleteList N (length (mincuts N)) (mincuts N) (sourceSides N)

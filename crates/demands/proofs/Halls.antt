@@ -6,19 +6,19 @@ use mathlib.Core.List.{List, [], _∷_, List·Memᴰ}
 use mathlib.Core.Logic.{_↔_, Iff·rfl, Iff·trans}
 use Prim.Native.Nat.{ℕ}
 use lib.Dec.{T, eqb}
-use Rattle.bitset.specs.Members.{has, insert, _∖_, size, subsets}
-use Rattle.rows.specs.Permutation.{countIf}
-use Rattle.rows.specs.Widths.{tabulate, widthsOf}
+use Rattle.bitset.specs.Members.{has, insert, _∖_, size, subsets, membersFrom}
+use Rattle.bitset.proofs.Tests.{T-and, T-eqb}
 use Rattle.network.specs.declared.Network.{Network}
 use Rattle.network.specs.Record.{_when_, _then_, sizeFault, pairFault, bare, withEdge}
 use Rattle.codec.specs.Format.{numberFault, sizeRefusal, terminalsRefusal, edgeRefusal, endRefusal, sizeStep, terminalsStep, edgeStep, edges, afterTerminals, afterSize, decodeOf}
 use Rattle.codec.proofs.Reading.{accepts, decode-plan}
+use Rattle.rows.specs.Permutation.{countIf}
+use Rattle.rows.specs.Widths.{tabulate, widthsOf}
 use Rattle.graph.specs.Cuts.{only, Cut, Mincut}
-use Rattle.graph.specs.MemberList.{membersFrom}
 use Rattle.graph.specs.Reach.{addIf, across, roundOver, rounds, reachOf}
 use Rattle.graph.specs.CutTests.{severed, every, cutTest, allNeeded, mincutTest}
 use Rattle.graph.specs.Relevant.{chosen, edgesAt, edgesWithin, past, pastAll, relevantNodes, relevantEdges, sourceSideOf}
-use Rattle.graph.proofs.Tests.{T-and, T-eqb, T-every}
+use Rattle.graph.proofs.Tests.{T-every}
 use Rattle.graph.proofs.Sound.{Sound, accepted-sound}
 use Rattle.graph.proofs.Cuts.{cutTest-iff, mincutTest-iff}
 use Rattle.listing.specs.List.{passing, mincuts, sourceSides}

@@ -16,9 +16,9 @@ use mathlib.Core.Path.{_≡_}
 use Prim.Native.Nat.{ℕ, _-_}
 use lib.Dec.{T, eqb}
 use lib.ListN.{length, replicate}
-use Rattle.rows.specs.Widths.{widthsOf}
 use Rattle.network.specs.declared.Network.{Network}
 use Rattle.codec.specs.Format.{decodeOf}
+use Rattle.rows.specs.Widths.{widthsOf}
 use Rattle.graph.specs.Cuts.{Cut, Mincut}
 use Rattle.graph.specs.CutTests.{every, cutTest, mincutTest}
 use Rattle.listing.specs.List.{mincuts, sourceSides}

@@ -6,16 +6,15 @@ use mathlib.Core.List.{List}
 use mathlib.Core.Logic.{_↔_}
 use mathlib.Core.Path.{_≡_}
 use Prim.Native.Nat.{ℕ, _<_}
-use lib.Dec.{T}
 use lib.ListN.{getD}
-use Rattle.bitset.specs.Members.{has}
+use Rattle.bitset.specs.Members.{_∈_}
 use Rattle.network.specs.declared.Network.{Network}
 use Rattle.graph.specs.Cuts.{Mincut, OnSourceSide}
 
 pub record CompleteList (N : Network) (n : ℕ) (cuts sides : List ℕ) : Type 0 where
   pub rising : (i j : ℕ) → i < j → j < n → getD cuts i 0 < getD cuts j 0
   pub members : (c : ℕ) → ((i : ℕ) × (i < n) × (getD cuts i 0 ≡ c)) ↔ Mincut N c
-  pub beside : (i v : ℕ) → i < n → T (has (getD sides i 0) v) ↔ OnSourceSide N (getD cuts i 0) v
+  pub beside : (i v : ℕ) → i < n → (v ∈ getD sides i 0) ↔ OnSourceSide N (getD cuts i 0) v
 
 -- Sides and later rows are not compared.
 pub record SameList (n : ℕ) (cuts : List ℕ) (m : ℕ) (cuts′ : List ℕ) : Type 0 where

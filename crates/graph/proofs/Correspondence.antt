@@ -1,20 +1,19 @@
 -- The mincuts and the source sides correspond one to one, as they are computed.
 -- Assumes a sound network.
 use mathlib.Core.Path.{_≡_, refl, sym, ap, _∙_}
-use mathlib.Core.Bool.{Bool, true, false, xor, _&&_}
-use mathlib.Core.Logic.{_⊎_, inl, inr, _↔_, Iff·trans, Iff·symm, Iff·and, Iff·rfl}
+use mathlib.Core.Bool.{xor, _&&_}
+use mathlib.Core.Logic.{inl, inr, _↔_, Iff·trans, Iff·symm, Iff·and, Iff·rfl}
 use Prim.Native.Nat.{ℕ, _^_}
 use lib.Dec.{T}
-use Rattle.bitset.specs.Members.{has, _⊆_, _∖_}
-use Rattle.bitset.proofs.Subsets.{⊆-antisym}
+use Rattle.bitset.specs.Members.{has, _⊆_, _∖_, _∈_}
+use Rattle.bitset.proofs.Tests.{T-and, T-xor}
+use Rattle.bitset.proofs.Sets.{in-minus, in-single, same-set}
 use Rattle.network.specs.declared.Network.{Network}
 use Rattle.network.specs.Record.{firstEnd, secondEnd}
 use Rattle.graph.specs.Paths.{Joins, Minpath}
 use Rattle.graph.specs.Cuts.{Mincut, RelevantEdge, RelevantNode, OnSourceSide}
 use Rattle.graph.specs.SourceSides.{Beyond, SourceSide, Crosses, Boundary}
 use Rattle.graph.specs.Relevant.{relevantNodes, relevantEdges, reachIn, sourceSideOf, boundaryOf}
-use Rattle.graph.proofs.Tests.{T-and}
-use Rattle.graph.proofs.Sets.{_∈_, in-minus, in-single}
 use Rattle.graph.proofs.Walks.{joins-sym, end-met}
 use Rattle.graph.proofs.Nodes.{carried}
 use Rattle.graph.proofs.Cuts.{mincut-none}
@@ -25,18 +24,6 @@ use Rattle.graph.proofs.EdgeSets.{in-chosen, edge-lt, in-reach-over}
 use Rattle.graph.proofs.Relevant.{in-relevantNodes, in-relevantEdges}
 use Rattle.graph.proofs.Inside.{hangs-same, hangs-reach}
 use Rattle.graph.proofs.SourceSides.{side-mincut, boundary-side, mincut-boundary, mincut-side}
-
--- Exactly one of two tests holds.
-T-xor : (a b : Bool) → T (xor a b) ↔ ((T a × (T b → ⊥)) ⊎ (T b × (T a → ⊥)))
-unfolding xor
-T-xor true true = (λ t. absurd t, λ c. elim c [ inl k ↦ k .1 tt | inr k ↦ k .1 tt ])
-T-xor true false = (λ t. inl (tt, λ k. k), λ c. tt)
-T-xor false true = (λ t. inr (tt, λ k. k), λ c. tt)
-T-xor false false = (λ t. absurd t, λ c. elim c [ inl k ↦ k .0 | inr k ↦ k .0 ])
-
--- Two sets are equal if each number is a member of both or of neither.
-pub same-set : {s t : ℕ} → ((k : ℕ) → (k ∈ s) ↔ (k ∈ t)) → s ≡ t
-same-set {s} {t} same = ⊆-antisym s t (λ k. same k .0) (λ k. same k .1)
 
 module _ (N : Network) (S : Sound N) where
   -- A present edge crosses exactly if one of its stored ends is in s.

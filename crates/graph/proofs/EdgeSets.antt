@@ -8,18 +8,18 @@ use Prim.Native.Nat.{ℕ, zero, suc, _^_, _<_}
 use native.Mathlib.Nat.{not-suc-le-zero, le-of-suc-le-suc, eq-or-lt-of-le}
 use native.Mathlib.Omega.{arith}
 use lib.Dec.{T, eqb}
-use Rattle.bitset.specs.Members.{has, _⊆_}
+use Rattle.bitset.specs.Members.{has, _⊆_, _∈_}
 use Rattle.bitset.proofs.Members.{has-zero}
+use Rattle.bitset.proofs.Tests.{T-and, T-or, T-eqb}
+use Rattle.bitset.proofs.Sets.{member-lt}
 use Rattle.network.specs.declared.Network.{Network}
 use Rattle.network.specs.Record.{hasEdge, firstEnd, secondEnd}
 use Rattle.graph.specs.Paths.{Joins, Step, Leads, edgesOf}
 use Rattle.graph.specs.Cuts.{only}
-use Rattle.graph.specs.Reach.{reachOf}
+use Rattle.graph.specs.Reach.{reachOf, Bounded}
 use Rattle.graph.specs.Relevant.{chosen, edgesAt, edgesWithin}
-use Rattle.graph.proofs.Tests.{T-and, T-or, T-eqb}
-use Rattle.graph.proofs.Sets.{_∈_, member-lt}
 use Rattle.graph.proofs.Walks.{leads-within}
-use Rattle.graph.proofs.Reach.{in-addIf, Bounded, bounded-only, in-reach-single}
+use Rattle.graph.proofs.Reach.{in-addIf, bounded-only, in-reach-single}
 
 -- The chosen numbers are those below n that pass the test.
 pub in-chosen : (f : ℕ → Bool) (n k : ℕ) → (k ∈ chosen f n) ↔ ((k < n) × T (f k))

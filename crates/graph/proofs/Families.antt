@@ -13,10 +13,10 @@ use Prim.Native.Nat.{ℕ, zero, suc, _^_, _<_}
 use native.Mathlib.Nat.{not-suc-le-zero, le-of-suc-le-suc, eq-or-lt-of-le}
 use native.Mathlib.Decide.{ℕ-discrete}
 use lib.Bits.{bitAnd}
-use Rattle.bitset.specs.Members.{_⊆_, _∖_}
+use Rattle.bitset.specs.Members.{_⊆_, _∖_, _∈_}
 use Rattle.bitset.proofs.Members.{lt-pow, has-zero}
 use Rattle.bitset.proofs.Subsets.{⊆-refl, ⊆-trans, ⊆-antisym, zero-⊆}
-use Rattle.graph.proofs.Sets.{_∈_, ∈-dec, in-and, in-minus, minus-⊆, minus-mono, minus-minus, in-drop, member-lt, empty-or-member}
+use Rattle.bitset.proofs.Sets.{∈-dec, in-and, in-minus, minus-⊆, minus-mono, minus-minus, in-drop, member-lt, empty-or-member}
 
 abbrev pub Meets : ℕ → ℕ → Type 0
 Meets s t = (k : ℕ) × ((k ∈ s) × (k ∈ t))

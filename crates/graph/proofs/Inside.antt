@@ -3,15 +3,14 @@
 use mathlib.Core.List.{_++_, List·Memᴰ·tail, List·Memᴰ·append-cases}
 use mathlib.Core.Logic.{inl, inr, _↔_}
 use Prim.Native.Nat.{ℕ}
-use Rattle.bitset.specs.Members.{_⊆_}
+use Rattle.bitset.specs.Members.{_⊆_, _∈_}
 use Rattle.network.specs.declared.Network.{Network}
+use Rattle.graph.specs.Reach.{Bounded}
 use Rattle.graph.specs.Paths.{nodesFrom}
 use Rattle.graph.specs.SourceSides.{Inside, HangsTogether}
 use Rattle.graph.specs.Relevant.{edgesWithin, reachIn}
-use Rattle.graph.proofs.Sets.{_∈_}
 use Rattle.graph.proofs.Walks.{nodes-append, back, joins-sym, ends-met, leads-append, leads-back, nodes-back, edges-present}
 use Rattle.graph.proofs.Nodes.{carried}
-use Rattle.graph.proofs.Reach.{Bounded}
 use Rattle.graph.proofs.EdgeSets.{in-edgesWithin, in-reach-over}
 
 module _ (N : Network) (P : ℕ → Type 0) where

@@ -1,6 +1,5 @@
 -- The theory of graphs, a notion to a file, in reading order.
 pub mod Tests
-pub mod Sets
 pub mod Walks
 pub mod Nodes
 pub mod Minpaths

@@ -11,15 +11,16 @@ use native.Mathlib.Omega.{arith}
 use borrow.Author.Tests.{eq-eqb, eqb-true}
 use denote.Floats.{is-true}
 use lib.Dec.{T, eqb}
-use Rattle.bitset.specs.Members.{has, _⊆_, size}
+use Rattle.bitset.specs.Members.{has, _⊆_, size, _∈_}
 use Rattle.bitset.proofs.Subsets.{⊆-antisym, same-test, subset-le}
 use Rattle.bitset.proofs.Size.{size-le, size-lt}
+use Rattle.bitset.proofs.Sets.{∈-dec, in-insert, in-single, member-lt}
+use Rattle.bitset.proofs.MemberList.{in-members}
 use Rattle.network.specs.declared.Network.{Network}
 use Rattle.network.specs.Record.{firstEnd, secondEnd}
 use Rattle.graph.specs.Paths.{Joins, Step, Leads, Connected}
 use Rattle.graph.specs.Cuts.{only}
-use Rattle.graph.specs.Reach.{addIf, across, edgeList, roundOver, rounds, round, reachOf, Closed}
-use Rattle.graph.proofs.Sets.{_∈_, ∈-dec, in-insert, in-single, member-lt, in-members}
+use Rattle.graph.specs.Reach.{Bounded, addIf, across, edgeList, roundOver, rounds, round, reachOf, Closed}
 
 -- ---- a round
 
@@ -99,11 +100,6 @@ pub closed-walk : (N : Network) (s : ℕ) → Closed N s → (p : List Step) (u 
 unfolding Leads
 closed-walk N s c [] u v h m = rw (← h) m
 closed-walk N s c (t ∷ p) u v h m = closed-walk N s c p (t .to) v (h .1) (c (t .edge) u (t .to) (h .0) m)
-
--- The edges of N have numbers below 64, and their ends are below the node count.
-pub record Bounded (N : Network) : Type 0 where
-  pub edges : N .present .0 < 2 ^ 64
-  pub ends : (e u v : ℕ) → Joins N e u v → v < N .nodes
 
 module _ (N : Network) (B : Bounded N) where
   -- A larger set has a larger round.

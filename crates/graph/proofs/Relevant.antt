@@ -8,18 +8,18 @@ use native.Mathlib.Nat.{not-suc-le-zero, le-of-suc-le-suc, eq-or-lt-of-le}
 use native.Mathlib.Decide.{ℕ-discrete, decLt}
 use native.Mathlib.Omega.{arith}
 use lib.Dec.{ltb→lt, lt→ltb}
-use Rattle.bitset.specs.Members.{insert, _∖_}
+use Rattle.bitset.specs.Members.{insert, _∖_, _∈_}
 use Rattle.bitset.proofs.Members.{has-ones}
+use Rattle.bitset.proofs.Sets.{in-insert, in-and, in-minus, in-single, in-drop, minus-⊆}
 use Rattle.network.specs.declared.Network.{Network}
 use Rattle.network.specs.Record.{firstEnd, secondEnd}
 use Rattle.graph.specs.Paths.{Step, Leads, nodesFrom}
 use Rattle.graph.specs.Cuts.{without, RelevantEdge, RelevantNode}
-use Rattle.graph.specs.Reach.{reachOf}
+use Rattle.graph.specs.Reach.{reachOf, Bounded}
 use Rattle.graph.specs.Relevant.{edgesAt, past, pastAll, relevantNodes, relevantEdges}
-use Rattle.graph.proofs.Sets.{_∈_, in-insert, in-and, in-minus, in-single, in-drop, minus-⊆}
 use Rattle.graph.proofs.Walks.{joins-sym, end-met, ends-met, back, leads-back, nodes-back, edges-present, leads-within}
 use Rattle.graph.proofs.Nodes.{carried}
-use Rattle.graph.proofs.Reach.{Bounded, in-reach, bounded-only}
+use Rattle.graph.proofs.Reach.{in-reach, bounded-only}
 use Rattle.graph.proofs.EdgeSets.{joins-stored, in-edgesAt, in-edgesWithin}
 use Rattle.graph.proofs.Sound.{Sound}
 use Rattle.graph.proofs.RelevantNodes.{Escapes, stays, end-relevant, relevant-node-iff}

@@ -5,13 +5,14 @@ use mathlib.Core.Logic.{inl, inr, _≢_}
 use Prim.Native.Nat.{ℕ, _≤_, _<_}
 use native.Mathlib.Omega.{arith}
 use denote.Floats.{is-true}
+use Rattle.bitset.specs.Members.{_∈_}
+use Rattle.bitset.proofs.Sets.{member-lt}
 use Rattle.network.specs.declared.Network.{Network}
 use Rattle.network.specs.Record.{hasEdge, firstEnd, secondEnd, slotFault, faultOf, Stored}
 use Rattle.network.proofs.Refusals.{size-none, pair-none}
 use Rattle.network.proofs.Slots.{accepted}
+use Rattle.graph.specs.Reach.{Bounded}
 use Rattle.graph.specs.Paths.{Joins}
-use Rattle.graph.proofs.Sets.{_∈_, member-lt}
-use Rattle.graph.proofs.Reach.{Bounded}
 
 -- Edges below 64 with ends below the node count, no loop, at most 32 nodes, and two terminals among them.
 pub record Sound (N : Network) : Type 0 where

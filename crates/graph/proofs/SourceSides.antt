@@ -4,16 +4,16 @@ use mathlib.Core.Path.{_≡_, refl, _∙_}
 use mathlib.Core.List.{List, [], _∷_, _++_, List·Memᴰ, List·Memᴰ·head, List·Memᴰ·tail, List·Memᴰ·cases-cons, List·Memᴰ·eq-of-singleton, Memᴰ·append-left, append-nil}
 use mathlib.Core.Logic.{_⊎_, inl, inr, _↔_, Dec·not-not}
 use Prim.Native.Nat.{ℕ}
-use Rattle.bitset.specs.Members.{_⊆_, _∖_}
+use Rattle.bitset.specs.Members.{_⊆_, _∖_, _∈_}
 use Rattle.bitset.proofs.Subsets.{⊆-antisym}
+use Rattle.bitset.proofs.Sets.{∈-dec, in-minus}
 use Rattle.network.specs.declared.Network.{Network}
+use Rattle.graph.specs.Reach.{Bounded}
 use Rattle.graph.specs.Paths.{Joins, Step, Leads, nodesFrom, edgesOf, Minpath}
 use Rattle.graph.specs.Cuts.{Cut, Mincut, RelevantEdge, RelevantNode, OnSourceSide}
 use Rattle.graph.specs.SourceSides.{Inside, Beyond, SourceSide, Crosses, Boundary}
-use Rattle.graph.proofs.Sets.{_∈_, ∈-dec, in-minus}
 use Rattle.graph.proofs.Walks.{reached, edges-nil, edges-cons, edges-append, nodes-append, joins-sym, joins-ends, end-met, ends-met, leads-append, split, shorten, edges-present, leads-only}
 use Rattle.graph.proofs.Nodes.{nodes-within, carried}
-use Rattle.graph.proofs.Reach.{Bounded}
 use Rattle.graph.proofs.Cuts.{cut-connected, cut-transversal, mincut-private}
 use Rattle.graph.proofs.Inside.{inside-append, inside-back, hangs-at}
 use Rattle.graph.proofs.RelevantNodes.{end-relevant}

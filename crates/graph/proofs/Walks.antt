@@ -5,12 +5,12 @@ use mathlib.Core.List.{List, [], _∷_, _++_, map, map-append, List·Memᴰ, Lis
 use mathlib.Core.Logic.{_⊎_, inl, inr, ⊎-swap, ⊎-map, _↔_, Iff·rfl}
 use Prim.Native.Nat.{ℕ}
 use native.Mathlib.Decide.{ℕ-discrete}
-use Rattle.bitset.specs.Members.{_⊆_}
+use Rattle.bitset.specs.Members.{_⊆_, _∈_}
 use Rattle.bitset.proofs.Members.{has-zero}
+use Rattle.bitset.proofs.Sets.{in-insert}
 use Rattle.network.specs.declared.Network.{Network}
 use Rattle.graph.specs.Paths.{Joins, Step, Leads, Distinct, nodesFrom, Simple, edgesOf}
 use Rattle.graph.specs.Cuts.{only}
-use Rattle.graph.proofs.Sets.{_∈_, in-insert}
 
 -- ---- lists of nodes
 

@@ -10,10 +10,9 @@ use mathlib.Core.List.{List, [], _∷_}
 use Prim.Native.Nat.{ℕ, _^_}
 use lib.Bits.{bitAnd}
 use lib.Dec.{eqb}
-use Rattle.bitset.specs.Members.{has, _∖_}
+use Rattle.bitset.specs.Members.{has, _∖_, members}
 use Rattle.network.specs.declared.Network.{Network}
 use Rattle.graph.specs.Cuts.{without}
-use Rattle.graph.specs.MemberList.{members}
 use Rattle.graph.specs.Reach.{reachOf}
 
 unfoldable pub severed : Network → ℕ → Bool

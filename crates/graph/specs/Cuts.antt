@@ -12,8 +12,7 @@ use mathlib.Core.List.{List, List·Memᴰ}
 use mathlib.Core.Logic.{_⊎_}
 use mathlib.Core.Path.{_≡_}
 use Prim.Native.Nat.{ℕ}
-use lib.Dec.{T}
-use Rattle.bitset.specs.Members.{has, _⊆_, _∖_}
+use Rattle.bitset.specs.Members.{_⊆_, _∖_, _∈_}
 use Rattle.network.specs.declared.Network.{Network}
 use Rattle.graph.specs.Paths.{Step, Leads, nodesFrom, edgesOf, Minpath}
 
@@ -39,7 +38,7 @@ pub record Mincut (N : Network) (c : ℕ) : Type 0 where
   pub least : (d : ℕ) → d ⊆ c → Cut N d → d ≡ c
 
 abbrev pub RelevantEdge : Network → ℕ → Type 0
-RelevantEdge N e = (r : ℕ) × (Minpath N r × T (has r e))
+RelevantEdge N e = (r : ℕ) × (Minpath N r × (e ∈ r))
 
 abbrev pub OnMinpath : Network → ℕ → Type 0
 OnMinpath N v = (r : ℕ) × ((m : Minpath N r) × List·Memᴰ v (nodesFrom (N .source) (m .steps)))
@@ -52,4 +51,4 @@ pub record OnSourceSide (N : Network) (c v : ℕ) : Type 0 where
   pub relevant : RelevantNode N v
   pub steps : List Step
   pub leads : Leads N (N .source) steps v
-  pub kept : (e : ℕ) → T (has (edgesOf steps) e) → RelevantEdge N e × (T (has c e) → ⊥)
+  pub kept : (e : ℕ) → e ∈ edgesOf steps → RelevantEdge N e × (e ∈ c → ⊥)

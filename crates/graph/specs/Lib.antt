@@ -2,7 +2,6 @@
 pub mod Paths
 pub mod Cuts
 pub mod SourceSides
-pub mod MemberList
 pub mod Reach
 pub mod CutTests
 pub mod Relevant

@@ -8,15 +8,15 @@
 --   round N s            s with every node that a present edge joins to a node of s
 --   reachOf N s          the nodes that are connected to some node of s: every round but the last adds a node
 --   Closed N s           no present edge leads out of s
+--   Bounded N            the edges of N have numbers below 64, and their ends are below the node count
 use mathlib.Core.Bool.{Bool, true, false}
 use mathlib.Core.List.{List, foldr}
-use Prim.Native.Nat.{ℕ, zero, suc}
-use lib.Dec.{T, eqb}
-use Rattle.bitset.specs.Members.{has, insert}
+use Prim.Native.Nat.{ℕ, zero, suc, _^_, _<_}
+use lib.Dec.{eqb}
+use Rattle.bitset.specs.Members.{has, insert, members, _∈_}
 use Rattle.network.specs.declared.Network.{Network}
 use Rattle.network.specs.Record.{firstEnd, secondEnd}
 use Rattle.graph.specs.Paths.{Joins}
-use Rattle.graph.specs.MemberList.{members}
 
 unfoldable pub addIf : Bool → ℕ → ℕ → ℕ
 addIf b t v = elim b [ true ↦ insert t v | false ↦ t ]
@@ -41,4 +41,8 @@ unfoldable pub reachOf : Network → ℕ → ℕ
 reachOf N s = rounds N (edgeList N) (N .nodes) s
 
 abbrev pub Closed : Network → ℕ → Type 0
-Closed N s = (e u v : ℕ) → Joins N e u v → T (has s u) → T (has s v)
+Closed N s = (e u v : ℕ) → Joins N e u v → u ∈ s → v ∈ s
+
+pub record Bounded (N : Network) : Type 0 where
+  pub edges : N .present .0 < 2 ^ 64
+  pub ends : (e u v : ℕ) → Joins N e u v → v < N .nodes

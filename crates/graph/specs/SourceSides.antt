@@ -9,8 +9,7 @@
 use mathlib.Core.List.{List, List·Memᴰ}
 use mathlib.Core.Logic.{_↔_}
 use Prim.Native.Nat.{ℕ}
-use lib.Dec.{T}
-use Rattle.bitset.specs.Members.{has}
+use Rattle.bitset.specs.Members.{_∈_}
 use Rattle.network.specs.declared.Network.{Network}
 use Rattle.graph.specs.Paths.{Joins, Step, Leads, nodesFrom}
 use Rattle.graph.specs.Cuts.{RelevantEdge, RelevantNode}
@@ -24,21 +23,21 @@ abbrev pub HangsTogether : Network → (ℕ → Type 0) → Type 0
 HangsTogether N P = (u v : ℕ) → P u → P v → Inside N P u v
 
 abbrev pub Beyond : Network → ℕ → ℕ → Type 0
-Beyond N s v = RelevantNode N v × (T (has s v) → ⊥)
+Beyond N s v = RelevantNode N v × (v ∈ s → ⊥)
 
 pub record SourceSide (N : Network) (s : ℕ) : Type 0 where
-  pub relevant : (v : ℕ) → T (has s v) → RelevantNode N v
-  pub source : T (has s (N .source))
-  pub sink : T (has s (N .sink)) → ⊥
-  pub inside : HangsTogether N (λ v. T (has s v))
+  pub relevant : (v : ℕ) → v ∈ s → RelevantNode N v
+  pub source : N .source ∈ s
+  pub sink : N .sink ∈ s → ⊥
+  pub inside : HangsTogether N (λ v. v ∈ s)
   pub outside : HangsTogether N (Beyond N s)
 
 pub record Crosses (N : Network) (s e : ℕ) : Type 0 where
   pub near : ℕ
   pub far : ℕ
   pub joins : Joins N e near far
-  pub near-in : T (has s near)
-  pub far-out : T (has s far) → ⊥
+  pub near-in : near ∈ s
+  pub far-out : far ∈ s → ⊥
 
 abbrev pub Boundary : Network → ℕ → ℕ → Type 0
-Boundary N s c = (e : ℕ) → T (has c e) ↔ (RelevantEdge N e × Crosses N s e)
+Boundary N s c = (e : ℕ) → (e ∈ c) ↔ (RelevantEdge N e × Crosses N s e)

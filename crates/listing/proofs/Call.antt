@@ -7,9 +7,9 @@ use native.Mathlib.Omega.{arith}
 use borrow.Rule.Slice.PartMut.{putMid}
 use lib.ListN.{length, take, length-map}
 use lib.Seq.{sets}
-use Rattle.rows.specs.Sorted.{Sorted, SortedIfPaired}
 use Rattle.network.specs.declared.Network.{Network}
 use Rattle.network.specs.Record.{unlessRefused, faultOf, Stored}
+use Rattle.rows.specs.Sorted.{Sorted, SortedIfPaired}
 use Rattle.graph.proofs.Sound.{Sound, accepted-sound}
 use Rattle.cuts.specs.Enumeration.{Row, cutsOf, sidesOf, rows}
 use Rattle.listing.specs.declared.Listed.{Listed}

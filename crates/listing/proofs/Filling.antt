@@ -8,13 +8,13 @@ use native.Mathlib.Decide.{ℕ-discrete}
 use native.Mathlib.Omega.{arith}
 use lib.ListN.{length, getD, set, length-set, replicate}
 use lib.Seq.{getD-set-same, getD-set-other}
-use Rattle.bitset.specs.Members.{insert}
+use Rattle.bitset.specs.Members.{insert, _∈_}
 use Rattle.bitset.proofs.Members.{has-zero}
+use Rattle.bitset.proofs.Sets.{in-insert}
 use Rattle.network.specs.declared.Network.{Network}
 use Rattle.network.specs.Record.{firstEnd, secondEnd}
 use Rattle.graph.specs.Paths.{Joins}
 use Rattle.graph.specs.Cuts.{only}
-use Rattle.graph.proofs.Sets.{_∈_, in-insert}
 use Rattle.graph.proofs.Walks.{joins-sym}
 use Rattle.graph.proofs.EdgeSets.{joins-stored}
 use Rattle.graph.proofs.Sound.{Sound}

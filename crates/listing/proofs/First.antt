@@ -4,11 +4,11 @@ use mathlib.Core.Path.{_≡_, refl, ap, subst, _∙_}
 use mathlib.Core.List.{List}
 use mathlib.Core.Logic.{inl}
 use Prim.Native.Nat.{ℕ}
-use Rattle.bitset.specs.Members.{_⊆_}
+use Rattle.bitset.specs.Members.{_⊆_, _∈_}
+use Rattle.bitset.proofs.Sets.{in-drop}
 use Rattle.network.specs.declared.Network.{Network}
 use Rattle.graph.specs.Cuts.{only}
 use Rattle.graph.specs.Relevant.{relevantNodes, relevantEdges}
-use Rattle.graph.proofs.Sets.{_∈_, in-drop}
 use Rattle.graph.proofs.Sound.{Sound}
 use Rattle.graph.proofs.EdgeSets.{in-edgesWithin}
 use Rattle.graph.proofs.Relevant.{in-relevantNodes}

@@ -8,20 +8,18 @@ use Prim.Native.Nat.{ℕ, _^_, _≤_, _<_}
 use native.Mathlib.Omega.{arith}
 use lib.Bits.{bitOr}
 use lib.ListN.{getD}
-use Rattle.bitset.specs.Members.{has, insert, _∖_, size}
+use Rattle.bitset.specs.Members.{has, insert, _∖_, size, _∈_}
 use Rattle.bitset.proofs.Subsets.{⊆-refl}
+use Rattle.bitset.proofs.Sets.{in-insert, in-single, in-drop, same-set, in-or, size-drop}
 use Rattle.network.specs.declared.Network.{Network}
-use Rattle.graph.specs.Reach.{round}
+use Rattle.graph.specs.Reach.{round, Bounded}
 use Rattle.graph.specs.Relevant.{reachIn, edgesAt}
-use Rattle.graph.proofs.Sets.{_∈_, in-insert, in-single, in-drop}
-use Rattle.graph.proofs.Reach.{Bounded, in-round}
+use Rattle.graph.proofs.Reach.{in-round}
 use Rattle.graph.proofs.EdgeSets.{in-edgesAt}
-use Rattle.graph.proofs.Correspondence.{same-set}
 use Rattle.cuts.specs.declared.Branch.{Branch}
 use Rattle.cuts.specs.Enumeration.{candidate, joined, leftOut, isOpen, Row, rowOf, rowsIf, joinRows, leaveOutRows}
 use Rattle.cuts.proofs.ReachIn.{reachIn-start, reachIn-⊆, reachIn-same}
-use Rattle.cuts.proofs.Part.{in-or}
-use Rattle.cuts.proofs.Recursion.{candidate-in, size-drop, rows-leaf, rows-split}
+use Rattle.cuts.proofs.Recursion.{candidate-in, rows-leaf, rows-split}
 use Rattle.listing.specs.Tables.{Near, At}
 use Rattle.listing.specs.Rows.{Fed, Whole, Room, Put}
 use Rattle.listing.proofs.Putting.{put-none, put-both}

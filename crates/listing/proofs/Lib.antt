@@ -1,7 +1,6 @@
 -- The list, in reading order: what the complete list is, the enumeration as the code makes it, the call.
 pub mod Mincuts
 pub mod Rows
-pub mod Operations
 pub mod Filling
 pub mod Spread
 pub mod Putting

@@ -9,15 +9,15 @@ use native.Mathlib.Bridge.{le-prop}
 use native.Mathlib.Nat.{lt-of-le-of-lt}
 use denote.Floats.{passes}
 use lib.Dec.{T}
+use Rattle.lists.specs.Rising.{Rising}
 use Rattle.bitset.specs.Members.{subsets}
-use Rattle.bitset.specs.Rising.{Rising}
 use Rattle.bitset.proofs.Subsets.{subset-le, mem-subsets, subsets-rising}
 use Rattle.network.specs.declared.Network.{Network}
+use Rattle.graph.specs.Reach.{Bounded}
 use Rattle.graph.specs.Paths.{Minpath}
 use Rattle.graph.specs.Cuts.{Mincut}
 use Rattle.graph.specs.CutTests.{mincutTest}
 use Rattle.graph.specs.Relevant.{sourceSideOf}
-use Rattle.graph.proofs.Reach.{Bounded}
 use Rattle.graph.proofs.Cuts.{mincutTest-iff, mincut-none}
 use Rattle.graph.proofs.Sound.{Sound}
 use Rattle.graph.proofs.Correspondence.{side-of-mincut, side-none}

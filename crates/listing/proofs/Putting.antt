@@ -1,27 +1,15 @@
 -- Rows that are put one after the other, as far as the areas reach and as far as they are counted.
 -- Assumes room: no area is longer than the limit.
 use mathlib.Core.Path.{_≡_, refl, sym, ap, _∙_}
-use mathlib.Core.List.{List, [], _∷_, _++_, map, map-append}
-use Prim.Native.Nat.{ℕ, suc, _+_, _≤_, _<_}
-use native.Mathlib.Nat.{add-zero, add-suc, suc-add}
+use mathlib.Core.List.{List, [], _++_, map, map-append}
+use Prim.Native.Nat.{ℕ, _+_, _≤_, _<_}
 use native.Mathlib.Decide.{decLe}
 use native.Mathlib.Omega.{arith}
-use lib.ListN.{length, length-append, length-map, set}
-use lib.Seq.{sets, set-out, length-sets}
+use lib.ListN.{length, length-append, length-map}
+use lib.Seq.{sets, length-sets}
+use Rattle.lists.proofs.Stores.{sets-append, sets-out}
 use Rattle.cuts.specs.Enumeration.{Row, cutsOf, sidesOf}
 use Rattle.listing.specs.Rows.{Room, Put}
-
--- To store a list and then another behind it is to store both.
-sets-append : (j k l : List ℕ) (i : ℕ) → sets (sets l i j) (i + length j) k ≡ sets l i (j ++ k)
-sets-append [] k l i = ap (λ (n : ℕ). sets l n k) (add-zero i)
-sets-append (x ∷ j) k l i =
-    ap (λ (n : ℕ). sets (sets (set l i x) (suc i) j) n k) (add-suc i (length j) ∙ sym (suc-add i (length j)))
-    ∙ sets-append j k (set l i x) (suc i)
-
--- Past the end nothing is stored.
-sets-out : (k l : List ℕ) (i : ℕ) → length l ≤ i → sets l i k ≡ l
-sets-out [] l i h = refl
-sets-out (x ∷ k) l i h = rw (set-out l i x h) (sets-out k l (suc i) (omega arith))
 
 module _ (n limit : ℕ) (cuts sides : List ℕ) (room : Room n limit cuts sides) where
   -- No row is put.
@@ -49,9 +37,9 @@ module _ (n limit : ℕ) (cuts sides : List ℕ) (room : Room n limit cuts sides
           → sets k′ m (map f l) ≡ sets k n (map f (j ++ l))
       one f k k′ h e (yes s) =
           let place : m ≡ n + length (map f j) = omega (arith, p .count, length-map j f) in
-          rw (e, place, map-append f j l) (sets-append (map f j) (map f l) k n)
+          rw (e, place, map-append f j l) (sets-append k n (map f j) (map f l))
       one f k k′ h e (no s) =
           let same : length k′ ≡ length k = ap length e ∙ length-sets k n (map f j) in
           sets-out (map f l) k′ m (omega (arith, p .count, same)) ∙ e
           ∙ sym (sets-out (map f l) (sets k n (map f j)) (n + length (map f j)) (omega (arith, length-sets k n (map f j), length-map j f)))
-          ∙ sets-append (map f j) (map f l) k n ∙ ap (sets k n) (sym (map-append f j l))
+          ∙ sets-append k n (map f j) (map f l) ∙ ap (sets k n) (sym (map-append f j l))

@@ -1,16 +1,17 @@
 -- The rows of the enumeration, sorted by cut, are the complete list with its source sides.
 -- Assumes a sound network.
 use mathlib.Core.Path.{_≡_, refl, sym, ap, _∙_}
-use mathlib.Core.List.{List, [], _∷_, map, zip, zipWith, Pairwise·imp, List·Nodup, List·Memᴰ, List·Permᴰ, List·Permᴰ·nil, List·Permᴰ·cons, List·Permᴰ·swap, List·Permᴰ·trans, Perm, perm-ext-iff-of-nodup}
+use mathlib.Core.List.{List, [], _∷_, map, zip, zipWith, Pairwise·imp, List·Nodup, List·Memᴰ, Perm, perm-ext-iff-of-nodup}
 use mathlib.Core.Logic.{_↔_, Iff·trans, Iff·symm, Iff·trunc, ∥∥₁-elim}
-use Prim.Native.Nat.{ℕ, zero, suc, _<_}
-use native.Mathlib.Nat.{ℕ-set, not-suc-le-zero, le-of-suc-le-suc}
+use Prim.Native.Nat.{ℕ, _<_}
+use native.Mathlib.Nat.{ℕ-set}
 use native.Mathlib.Omega.{arith}
 use lib.ListN.{length, getD, length-map}
 use lib.Seq.{ext-getD}
+use Rattle.lists.proofs.Places.{getD-map, perm-length}
+use Rattle.network.specs.declared.Network.{Network}
 use Rattle.rows.specs.Sorted.{Sorted}
 use Rattle.rows.proofs.Order.{sorted-unique, sorted-beside}
-use Rattle.network.specs.declared.Network.{Network}
 use Rattle.graph.specs.Relevant.{sourceSideOf}
 use Rattle.graph.proofs.Sound.{Sound}
 use Rattle.cuts.specs.Enumeration.{Row, cutsOf, sidesOf, rows}
@@ -22,12 +23,6 @@ use Rattle.listing.proofs.Mincuts.{mincuts-lists}
 
 -- ---- lists
 
--- What stands at a place of the list of values is the value of what stands there.
-pub getD-map : (f : ℕ → ℕ) (l : List ℕ) (i : ℕ) → i < length l → getD (map f l) i 0 ≡ f (getD l i 0)
-getD-map f [] i h = absurd (not-suc-le-zero h)
-getD-map f (x ∷ l) zero h = refl
-getD-map f (x ∷ l) (suc i) h = getD-map f l i (le-of-suc-le-suc h)
-
 -- Rows are their cuts beside their sides.
 zip-rows : (l : List Row) → zip (cutsOf l) (sidesOf l) ≡ l
 unfolding zip zipWith
@@ -37,13 +32,6 @@ zip-rows (r ∷ l) = ap (λ (k : List Row). r ∷ k) (zip-rows l)
 -- There are as many sides as cuts.
 pub rows-paired : (l : List Row) → length (cutsOf l) ≡ length (sidesOf l)
 rows-paired l = length-map l (λ (r : Row). r .0) ∙ sym (length-map l (λ (r : Row). r .1))
-
--- A permutation is as long.
-perm-length : {k l : List ℕ} → List·Permᴰ k l → length k ≡ length l
-perm-length List·Permᴰ·nil = refl
-perm-length (List·Permᴰ·cons e p) = ap suc (perm-length p)
-perm-length (List·Permᴰ·swap e f) = refl
-perm-length (List·Permᴰ·trans p q) = perm-length p ∙ perm-length q
 
 -- ---- the rows of a network
 

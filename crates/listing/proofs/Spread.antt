@@ -9,18 +9,16 @@ use native.Mathlib.Decide.{ℕ-discrete}
 use denote.Floats.{is-true}
 use lib.Bits.{bitAnd}
 use lib.ListN.{getD}
-use Rattle.bitset.specs.Members.{has, _⊆_, _∖_}
+use Rattle.bitset.specs.Members.{has, _⊆_, _∖_, _∈_}
 use Rattle.bitset.proofs.Subsets.{⊆-refl, ⊆-antisym, subset-lt, same-test}
+use Rattle.bitset.proofs.Sets.{∈-dec, in-and, in-minus, member-lt, in-or}
+use Rattle.bitset.proofs.Results.{intersection-and, difference-minus, union-or}
+use Rattle.bitset.proofs.Scans.{Less}
 use Rattle.network.specs.declared.Network.{Network}
+use Rattle.graph.specs.Reach.{Bounded}
 use Rattle.graph.specs.Relevant.{reachIn}
-use Rattle.graph.proofs.Sets.{_∈_, ∈-dec, in-and, in-minus, member-lt}
-use Rattle.graph.proofs.Reach.{Bounded}
 use Rattle.cuts.proofs.ReachIn.{reachIn-induct, reachIn-start, reachIn-⊆, reachIn-over}
-use Rattle.cuts.proofs.Part.{in-or}
 use Rattle.listing.specs.Tables.{Near}
-use Rattle.reach.proofs.Operations.{intersection-and, difference-minus}
-use Rattle.reach.proofs.Scans.{Less}
-use Rattle.listing.proofs.Operations.{union-or}
 
 -- A set of nodes that holds, with each of its nodes, those beside it inside the set `within`.
 abbrev pub Kept : List ℕ → ℕ → ℕ → Type 0

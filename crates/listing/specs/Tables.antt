@@ -6,18 +6,17 @@
 use mathlib.Core.List.{List}
 use mathlib.Core.Logic.{_↔_}
 use Prim.Native.Nat.{ℕ, _<_}
-use lib.Dec.{T}
 use lib.ListN.{getD}
-use Rattle.bitset.specs.Members.{has}
+use Rattle.bitset.specs.Members.{_∈_}
 use Rattle.network.specs.declared.Network.{Network}
+use Rattle.graph.specs.Reach.{Bounded}
 use Rattle.graph.specs.Paths.{Joins}
-use Rattle.graph.proofs.Reach.{Bounded}
 
 abbrev pub Near : Network → List ℕ → Type 0
-Near M near = (v w : ℕ) → v < 32 → T (has (getD near v 0) w) ↔ ((e : ℕ) × Joins M e v w)
+Near M near = (v w : ℕ) → v < 32 → (w ∈ getD near v 0) ↔ ((e : ℕ) × Joins M e v w)
 
 abbrev pub At : Network → List ℕ → Type 0
-At M at = (v e : ℕ) → v < 32 → T (has (getD at v 0) e) ↔ ((w : ℕ) × Joins M e v w)
+At M at = (v e : ℕ) → v < 32 → (e ∈ getD at v 0) ↔ ((w : ℕ) × Joins M e v w)
 
 pub record Tables (M : Network) (near at : List ℕ) : Type 0 where
   pub bounded : Bounded M

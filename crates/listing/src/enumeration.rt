@@ -6,16 +6,15 @@ use node_set::NodeSet;
 ghost use mathlib.Core.Path.{_≡_};
 ghost use mathlib.Core.List.{[], _∷_};
 ghost use Prim.Native.Nat.{_^_, _≤_, _<_};
-ghost use lib.Dec.{T};
 ghost use lib.ListN.{getD, set, replicate};
-ghost use Rattle.bitset.specs.Members.{has, insert, _⊆_, _∖_};
+ghost use Rattle.bitset.specs.Members.{insert, _∈_, _⊆_, _∖_};
 ghost use Rattle.network.specs.Record.{faultOf};
+ghost use Rattle.graph.specs.Reach.{Bounded};
 ghost use Rattle.graph.specs.Cuts.{only};
 ghost use Rattle.graph.specs.Relevant.{reachIn, relevantNodes, relevantEdges};
-ghost use Rattle.graph.proofs.Reach.{Bounded};
-ghost use Rattle.cuts.specs.Enumeration.{candidate, joined, leftOut, isOpen, rowOf, joinRows, leaveOutRows, rows, blank};
-ghost use Rattle.listing.specs.Tables.{Near, At, Tables};
-ghost use Rattle.listing.specs.Rows.{Fed, Whole, Room, Put};
+ghost use Rattle.cuts.specs.Enumeration.{candidate, leftOut, isOpen, rowOf, rows, blank};
+ghost use Rattle.listing.specs.Tables.{Near, At};
+ghost use Rattle.listing.specs.Rows.{Room, Put, JoinedBranch, JoinPut, LeaveOutPut};
 
 // ---- the tables
 
@@ -63,7 +62,7 @@ fn fill_tables(network: Network, edges: EdgeSet, near: &mut [u32; 32], at: &mut 
 
 // What the start reaches by walks that stay inside the set: of the nodes found, each in turn finds those beside it.
 fn reach_in(near: &[u32; 32], within: NodeSet, start: u32) -> NodeSet
-    ensures { λ r. ⌜ ((M : Network) → Bounded M → Near M (now (near .entry)) → T (has (within .0) start) → r .0 ≡ reachIn M (within .0) start) ⌝ }
+    ensures { λ r. ⌜ ((M : Network) → Bounded M → Near M (now (near .entry)) → start ∈ within .0 → r .0 ≡ reachIn M (within .0) start) ⌝ }
 {
     let first = NodeSet::single(start);
     let mut reached = first;
@@ -85,7 +84,8 @@ fn reach_in(near: &[u32; 32], within: NodeSet, start: u32) -> NodeSet
 
 // What the sink reaches once v has joined: as before if it did not reach v.
 fn rest_without(near: &[u32; 32], rest: NodeSet, v: u32, sink: u32) -> NodeSet
-    ensures { λ r. ⌜ ((M : Network) → Bounded M → Near M (now (near .entry)) → T (has (rest .0 ∖ 2 ^ v) sink) → ((T (has (rest .0) v) → ⊥) → reachIn M (rest .0) sink ≡ rest .0) → r .0 ≡ reachIn M (rest .0 ∖ 2 ^ v) sink) ⌝ }
+    ensures { λ r. ⌜ ((M : Network) → Bounded M → Near M (now (near .entry)) → sink ∈ (rest .0 ∖ 2 ^ v)
+        → ((v ∈ rest .0 → ⊥) → reachIn M (rest .0) sink ≡ rest .0) → r .0 ≡ reachIn M (rest .0 ∖ 2 ^ v) sink) ⌝ }
 {
     if rest.contains(v) {
         reach_in(near, rest.without(v), sink)
@@ -97,7 +97,7 @@ fn rest_without(near: &[u32; 32], rest: NodeSet, v: u32, sink: u32) -> NodeSet
 // The branch with v joined.
 fn joined(near: &[u32; 32], at: &[u64; 32], b: Branch, v: u32, sink: u32) -> Branch
     requires { ⌜ v < 32 ⌝ }
-    ensures { λ r. ⌜ (r .undecided .0 ≡ b .undecided .0 ∖ 2 ^ v) × ((M : Network) → Tables M (now (near .entry)) (now (at .entry)) → sink ≡ M .sink → T (has (b .rest .0 ∖ 2 ^ v) sink) → ((T (has (b .rest .0) v) → ⊥) → Whole M b) → r ≡ joined M b v) ⌝ }
+    ensures { λ r. ⌜ (r .undecided .0 ≡ b .undecided .0 ∖ 2 ^ v) × JoinedBranch (now (near .entry)) (now (at .entry)) sink b v r ⌝ }
 {
     let slot = v as usize;
     let side = b.side.with(v);
@@ -177,7 +177,8 @@ fn put_side(sides: &mut [u32], n: usize, side: NodeSet)
 // The row of a branch without a candidate, at place n. Gives the place after it.
 fn put_row(b: Branch, cuts: &mut [u64], sides: &mut [u32], n: usize, limit: usize) -> usize
     requires { ⌜ (n ≤ limit) × Room n limit (now cuts) (now sides) ⌝ }
-    ensures { λ r. ⌜ Room r limit (now (cuts .exit)) (now (sides .exit)) × Put (rowOf b ∷ []) n limit (now (cuts .entry)) (now (sides .entry)) (now (cuts .exit)) (now (sides .exit)) r ⌝ }
+    ensures { λ r. ⌜ Room r limit (now (cuts .exit)) (now (sides .exit)) × Put (rowOf b ∷ [])
+        n limit (now (cuts .entry)) (now (sides .entry)) (now (cuts .exit)) (now (sides .exit)) r ⌝ }
 {
     put_cut(cuts, n, b.cut);
     put_side(sides, n, b.side);
@@ -196,8 +197,9 @@ fn join(
     n: usize,
     limit: usize,
 ) -> usize
-    requires { ⌜ (v < 32) × T (has (b .undecided .0) v) × Room n limit (now cuts) (now sides) ⌝ }
-    ensures { λ r. ⌜ Room r limit (now (cuts .exit)) (now (sides .exit)) × ((M : Network) → Tables M (now (near .entry)) (now (at .entry)) → sink ≡ M .sink → Fed M b → ((T (has (b .rest .0) v) → ⊥) → Whole M b) → Put (joinRows M b v) n limit (now (cuts .entry)) (now (sides .entry)) (now (cuts .exit)) (now (sides .exit)) r) ⌝ }
+    requires { ⌜ (v < 32) × (v ∈ b .undecided .0) × Room n limit (now cuts) (now sides) ⌝ }
+    ensures { λ r. ⌜ Room r limit (now (cuts .exit)) (now (sides .exit)) × JoinPut (now (near .entry)) (now (at .entry)) sink b v
+        n limit (now (cuts .entry)) (now (sides .entry)) (now (cuts .exit)) (now (sides .exit)) r ⌝ }
 {
     if limit < n {
         return n;
@@ -226,8 +228,9 @@ fn leave_out(
     n: usize,
     limit: usize,
 ) -> usize
-    requires { ⌜ (v < 32) × T (has (b .undecided .0) v) × Room n limit (now cuts) (now sides) ⌝ }
-    ensures { λ r. ⌜ Room r limit (now (cuts .exit)) (now (sides .exit)) × ((M : Network) → Tables M (now (near .entry)) (now (at .entry)) → sink ≡ M .sink → Fed M b → Whole M b → Put (leaveOutRows M b v) n limit (now (cuts .entry)) (now (sides .entry)) (now (cuts .exit)) (now (sides .exit)) r) ⌝ }
+    requires { ⌜ (v < 32) × (v ∈ b .undecided .0) × Room n limit (now cuts) (now sides) ⌝ }
+    ensures { λ r. ⌜ Room r limit (now (cuts .exit)) (now (sides .exit)) × LeaveOutPut (now (near .entry)) (now (at .entry)) sink b v
+        n limit (now (cuts .entry)) (now (sides .entry)) (now (cuts .exit)) (now (sides .exit)) r ⌝ }
 {
     if limit < n {
         return n;
@@ -268,7 +271,8 @@ pub fn enumerate(
     sides: &mut [u32],
     limit: usize,
 ) -> usize
-    requires { ⌜ (faultOf network ≡ 0) × (nodes .0 ≡ relevantNodes network) × (edges .0 ≡ relevantEdges network) × Room 0 limit (now cuts) (now sides) ⌝ }
+    requires { ⌜ (faultOf network ≡ 0) × (nodes .0 ≡ relevantNodes network) × (edges .0 ≡ relevantEdges network)
+        × Room 0 limit (now cuts) (now sides) ⌝ }
     ensures { λ r. ⌜ Put (rows network) 0 limit (now (cuts .entry)) (now (sides .entry)) (now (cuts .exit)) (now (sides .exit)) r ⌝ }
 {
     let mut near = [0u32; 32];

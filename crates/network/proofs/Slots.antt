@@ -1,8 +1,8 @@
 -- The 64 slots of a record: what is stored in one, and what the record test makes of all of them.
 -- Assumes nothing.
 use mathlib.Core.Bool.{true, false, _||_, or-false, or-true}
-use mathlib.Core.List.{[], _++_, map, foldr, flatMap}
-use mathlib.Core.Path.{_≡_, refl, ap, ap₂, _∙_}
+use mathlib.Core.List.{map, foldr}
+use mathlib.Core.Path.{_≡_, refl, ap, _∙_}
 use Prim.Native.Nat.{ℕ, zero, suc, _+_, _-_, _≤_, _<_, zero-le}
 use native.Mathlib.Decide.{ℕ-discrete}
 use native.Mathlib.Omega.{arith}

@@ -10,18 +10,19 @@ use borrow.Author.Tests.{eq-eqb, ne-eqb, eqb-true, not-false}
 use denote.Floats.{is-true, passes}
 use lib.Bits.{bitAnd}
 use lib.Dec.{T, eqb}
-use Rattle.bitset.specs.Members.{_⊆_, _∖_}
+use Rattle.bitset.specs.Members.{_⊆_, _∖_, members, _∈_}
 use Rattle.bitset.proofs.Subsets.{same-test, subset-and}
+use Rattle.bitset.proofs.Tests.{T-not, T-then}
+use Rattle.bitset.proofs.Sets.{member-lt}
+use Rattle.bitset.proofs.MemberList.{in-members}
 use Rattle.network.specs.declared.Network.{Network}
 use Rattle.network.specs.Record.{_when_, faultOf, Stored}
 use Rattle.network.proofs.Refusals.{then-none, none-then, some-then, when-none, none-when, some-when}
-use Rattle.graph.specs.MemberList.{members}
+use Rattle.graph.specs.Reach.{Bounded}
 use Rattle.graph.specs.Cuts.{Cut, Mincut, RelevantEdge, RelevantNode}
 use Rattle.graph.specs.CutTests.{severed, cutTest, allNeeded, mincutTest}
 use Rattle.graph.specs.Relevant.{relevantNodes, relevantEdges}
-use Rattle.graph.proofs.Tests.{T-not, T-then, T-every}
-use Rattle.graph.proofs.Sets.{_∈_, member-lt, in-members}
-use Rattle.graph.proofs.Reach.{Bounded}
+use Rattle.graph.proofs.Tests.{T-every}
 use Rattle.graph.proofs.Cuts.{severed-iff, cutTest-iff, mincutTest-iff}
 use Rattle.graph.proofs.Sound.{accepted-sound}
 use Rattle.graph.proofs.Relevant.{in-relevantNodes, in-relevantEdges}

@@ -6,21 +6,21 @@ use mathlib.Core.Logic.{_⊎_, inl, inr, _↔_}
 use Prim.Native.Nat.{ℕ, _-_, _%_, _^_, _<_}
 use native.Mathlib.Omega.{arith}
 use lib.Dec.{T, eqb, ltb, lt→ltb}
-use Rattle.bitset.specs.Members.{has, _⊆_, insert, _∖_}
+use Rattle.bitset.specs.Members.{has, _⊆_, insert, _∖_, _∈_}
 use Rattle.bitset.proofs.Members.{has-ones}
 use Rattle.bitset.proofs.Subsets.{⊆-antisym}
+use Rattle.bitset.proofs.Tests.{T-and}
+use Rattle.bitset.proofs.Sets.{in-minus, in-drop, minus-⊆, member-lt, in-mod}
+use Rattle.bitset.proofs.Results.{single-power, below-ones, with-member, without-minus}
 use Rattle.network.specs.declared.Network.{Network}
 use Rattle.network.specs.Record.{hasEdge, firstEnd, secondEnd}
 use Rattle.graph.specs.Cuts.{only}
-use Rattle.graph.specs.Reach.{addIf, reachOf}
+use Rattle.graph.specs.Reach.{addIf, reachOf, Bounded}
 use Rattle.graph.specs.Relevant.{edgesAt, edgesWithin, past}
-use Rattle.graph.proofs.Tests.{T-and}
-use Rattle.graph.proofs.Sets.{_∈_, in-minus, in-drop, minus-⊆, member-lt}
 use Rattle.graph.proofs.Walks.{joins-sym}
-use Rattle.graph.proofs.Reach.{in-addIf, Bounded}
+use Rattle.graph.proofs.Reach.{in-addIf}
 use Rattle.graph.proofs.EdgeSets.{in-chosen, in-edgesAt, in-edgesWithin}
 use Rattle.graph.proofs.Sound.{Sound}
-use Rattle.reach.proofs.Operations.{in-mod, single-power, below-ones, with-member, without-minus}
 
 -- ---- the edges within a set of nodes
 

@@ -5,16 +5,15 @@ use mathlib.Core.Logic.{_⊎_, inl, inr, _↔_}
 use Prim.Native.Nat.{ℕ, _%_, _^_, _<_}
 use native.Mathlib.Omega.{arith}
 use lib.Arith.{lt-of-le-ne}
-use Rattle.bitset.specs.Members.{_⊆_}
+use Rattle.bitset.specs.Members.{_⊆_, _∈_}
 use Rattle.bitset.proofs.Subsets.{⊆-antisym, subset-le}
+use Rattle.bitset.proofs.Sets.{member-lt, in-mod}
 use Rattle.network.specs.declared.Network.{Network}
 use Rattle.graph.specs.Paths.{Joins}
 use Rattle.graph.specs.Cuts.{only}
-use Rattle.graph.specs.Reach.{across, round, reachOf}
-use Rattle.graph.proofs.Sets.{_∈_, member-lt}
-use Rattle.graph.proofs.Reach.{Beside, in-across, in-round, round-grows, Bounded, bounded-only, reach-start, reach-round, reach-unique}
+use Rattle.graph.specs.Reach.{across, round, reachOf, Bounded}
+use Rattle.graph.proofs.Reach.{Beside, in-across, in-round, round-grows, bounded-only, reach-start, reach-round, reach-unique}
 use Rattle.graph.proofs.Sound.{Sound}
-use Rattle.reach.proofs.Operations.{in-mod}
 
 -- ---- a round
 

@@ -1,5 +1,4 @@
 -- The laws of permutations, of rows, of the steps of the sort, of sorted rows, and of the width table.
-pub mod Places
 pub mod Permutation
 pub mod Rows
 pub mod Spans

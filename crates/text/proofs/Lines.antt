@@ -7,7 +7,8 @@ use native.Mathlib.Omega.{arith}
 use borrow.Author.Tests.{le-leb, lt-leb}
 use lib.ListN.{length, take, length-append}
 use lib.Seq.{sets-eq, take-at}
-use Rattle.text.specs.Text.{members, decimal, numbers, lineOf, wordLine}
+use Rattle.bitset.specs.Members.{members}
+use Rattle.text.specs.Text.{decimal, numbers, lineOf, wordLine}
 use Rattle.text.specs.Written.{withText, offsetAfter, Wrote}
 use Rattle.text.proofs.Written.{wrote-length}
 

@@ -6,8 +6,8 @@ use Prim.Native.Nat.{ℕ, _+_, _≤_, _<_}
 use native.Mathlib.Omega.{arith}
 use lib.ListN.{length, set, length-append}
 use lib.Seq.{length-sets}
+use Rattle.lists.proofs.Stores.{sets-append}
 use Rattle.text.specs.Written.{Wrote}
-use Rattle.text.proofs.Bytes.{sets-append}
 
 -- Writing keeps the length.
 pub wrote-length : {b t a : List ℕ} {at r : ℕ} → Wrote b at t a r → length a ≡ length b

@@ -1,6 +1,5 @@
 -- The printed lines of a list, as lists of bytes.
 --
---   members w s      the members of s below w, rising
 --   decimal n        the decimal digits of n, without leading zeros
 --   numbers l        the numbers of l in decimal with single spaces between them; a hyphen if there are none
 --   lineOf c s       the line of the cut c and its near side s: cables, space, bar, space, points
@@ -12,13 +11,8 @@ use mathlib.Core.List.{List, [], _∷_, _++_}
 use Prim.Native.Nat.{ℕ, zero, suc, _+_, _/_, _%_}
 use Prim.Native.Char.{code}
 use lib.Dec.{ltb}
-use Rattle.bitset.specs.Members.{has}
+use Rattle.bitset.specs.Members.{members}
 use Rattle.text.specs.Ascii.{bytes}
-
--- The largest comes last.
-unfoldable pub members : ℕ → ℕ → List ℕ
-members zero s = []
-members (suc w) s = elim (has s w) [ true ↦ members w s ++ w ∷ [] | false ↦ members w s ]
 
 -- The byte of the digit d.
 abbrev pub digit : ℕ → ℕ

@@ -4,7 +4,8 @@ use node_set::NodeSet;
 ghost use mathlib.Core.Path.{_≡_};
 ghost use Prim.Native.Nat.{_+_, _≤_, _<_};
 ghost use lib.ListN.{length};
-ghost use Rattle.text.specs.Text.{members, decimal, spaced, numbers, lineOf, wordLine, countLine, refusalLine};
+ghost use Rattle.bitset.specs.Members.{members};
+ghost use Rattle.text.specs.Text.{decimal, spaced, numbers, lineOf, wordLine, countLine, refusalLine};
 ghost use Rattle.text.specs.Written.{withText, offsetAfter, Wrote};
 
 // No line is longer (proofs/Bound.antt): that of all 64 edges and all 32 nodes has so many bytes.

@@ -1,8 +1,8 @@
 -- `cutlist_encode` meets its contract, by those of `assemble` and the writer.
 -- Assumes nothing.
 use mathlib.Core.Path.{ap, _∙_}
-use Rattle.codec.specs.declared.Encoded.{Encoded}
 use Rattle.network.specs.declared.Network.{Network}
+use Rattle.codec.specs.declared.Encoded.{Encoded}
 use Rattle.codec.specs.Format.{encodedBy, bytesAfter}
 use borrow.Author.Needs.{needs}
 use Rattle.capi.proofs.cutlist_encode.Statement.{statement}

@@ -5,7 +5,7 @@ use mathlib.Core.List.{[], _∷_}
 use Prim.Native.Char.{code}
 use native.Mathlib.Omega.{arith}
 use lib.ListN.{length}
-use Rattle.text.specs.Text.{members}
+use Rattle.bitset.specs.Members.{members}
 use Rattle.text.proofs.Members.{members-lowest, members-empty}
 use Rattle.text.proofs.Written.{wrote-length, wrote-text, wrote-byte}
 use Rattle.text.proofs.Numbers.{numbers-nil, numbers-cons, length-numbers}

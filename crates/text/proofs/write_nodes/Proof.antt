@@ -1,8 +1,8 @@
 -- `write_nodes` meets its contract: no node's number is past 32, so both widths give one list.
 -- Assumes nothing.
 use mathlib.Core.Path.{_≡_}
-use Rattle.text.specs.Text.{members}
-use Rattle.text.proofs.Members.{members-past}
+use Rattle.bitset.specs.Members.{members}
+use Rattle.bitset.proofs.MemberList.{members-past}
 use borrow.Author.Needs.{needs}
 use Rattle.text.proofs.write_nodes.Statement.{statement}
 use Rattle.text.proofs.write_nodes.Tie as tie

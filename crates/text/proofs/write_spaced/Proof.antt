@@ -7,7 +7,8 @@ use native.Mathlib.Omega.{arith}
 use lib.ListN.{length, length-set}
 use borrow.Author.Needs.{needs}
 use borrow.Author.Tests.{not-true, not-false}
-use Rattle.text.specs.Text.{members, decimal, spaced}
+use Rattle.bitset.specs.Members.{members}
+use Rattle.text.specs.Text.{decimal, spaced}
 use Rattle.text.proofs.Members.{members-lowest, members-empty}
 use Rattle.text.proofs.Written.{Left, left-all, left-length, left-room}
 use Rattle.text.proofs.Numbers.{length-spaced, left-number, left-numbers}

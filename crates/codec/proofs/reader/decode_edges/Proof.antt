@@ -11,9 +11,9 @@ use denote.Enum.Declared.{tagOf}
 use lib.ListN.{length, drop, length-drop}
 use lib.Seq.{drop-drop}
 use borrow.Author.Needs.{needs}
-use Rattle.codec.specs.declared.EdgeStep.{EdgeStep}
 use Rattle.network.specs.declared.Network.{Network}
 use Rattle.network.specs.Record.{withEdge}
+use Rattle.codec.specs.declared.EdgeStep.{EdgeStep}
 use Rattle.codec.specs.Format.{walk, edgeStep, endedBy, edgeNumber}
 use Rattle.codec.proofs.EdgeStep as edge-step
 use Rattle.codec.proofs.Walk.{edge-known, walk-edge, walk-ended}

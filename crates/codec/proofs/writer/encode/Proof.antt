@@ -5,8 +5,8 @@ use Prim.Native.Nat.{ℕ, _≤_}
 use native.Mathlib.Omega.{arith}
 use borrow.Author.Tests.{lt-ltb, le-ltb}
 use lib.ListN.{length}
-use Rattle.codec.specs.Format.{encodeOf, encodeRefusal}
 use Rattle.network.proofs.Refusals.{none-then, some-then, some-when, none-when}
+use Rattle.codec.specs.Format.{encodeOf, encodeRefusal}
 use Rattle.codec.proofs.Encoding.{encode-refused, encode-written, header-room, header-kept, end-room, end-length, end-bytes}
 use borrow.Author.Needs.{needs}
 use Rattle.codec.proofs.writer.encode.Statement.{statement}

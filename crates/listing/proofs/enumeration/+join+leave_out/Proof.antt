@@ -3,9 +3,8 @@
 use mathlib.Core.Path.{_≡_, refl}
 use native.Mathlib.Omega.{arith}
 use borrow.Author.Needs.{needs}
-use Rattle.bitset.specs.Members.{size}
+use Rattle.bitset.specs.Members.{size, _∈_}
 use Rattle.network.specs.declared.Network.{Network}
-use Rattle.graph.proofs.Sets.{_∈_}
 use Rattle.cuts.specs.Enumeration.{joined, leftOut, joinRows, leaveOutRows}
 use Rattle.listing.specs.Tables.{Tables}
 use Rattle.listing.specs.Rows.{Fed, Whole}

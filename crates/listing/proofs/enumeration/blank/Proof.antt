@@ -3,9 +3,9 @@
 use mathlib.Core.Path.{_≡_, ap, _∙_}
 use Prim.Native.Nat.{ℕ, _^_}
 use Rattle.bitset.specs.Members.{_∖_}
-use Rattle.cuts.specs.Enumeration.{blank}
+use Rattle.bitset.proofs.Results.{without-minus}
 use Rattle.graph.specs.Relevant.{relevantNodes}
-use Rattle.reach.proofs.Operations.{without-minus}
+use Rattle.cuts.specs.Enumeration.{blank}
 use borrow.Author.Needs.{needs}
 use Rattle.listing.proofs.enumeration.blank.Statement.{statement}
 use Rattle.listing.proofs.enumeration.blank.Tie as tie

@@ -2,8 +2,8 @@
 -- Assumes nothing.
 use mathlib.Core.Path.{ap}
 use lib.Count.{trailingZeros}
-use Rattle.reach.proofs.Operations.{intersection-and}
 use borrow.Author.Needs.{needs}
+use Rattle.bitset.proofs.Results.{intersection-and}
 use Rattle.listing.proofs.enumeration.candidate.Statement.{statement}
 use Rattle.listing.proofs.enumeration.candidate.Tie as tie
 

@@ -8,12 +8,11 @@ use denote.Floats.{passes}
 use lib.ListN.{length}
 use Rattle.bitset.specs.Members.{_⊆_, _∖_}
 use Rattle.bitset.proofs.Subsets.{⊆-refl}
+use Rattle.bitset.proofs.Scans.{Less, less-lowest, less-lt, none-left, gone-first, gone-next, gone-last}
 use Rattle.network.specs.Record.{firstEnd, secondEnd}
 use Rattle.graph.specs.Cuts.{only}
 use Rattle.graph.proofs.Sound.{accepted-sound}
 use Rattle.listing.specs.Tables.{Near, At}
-use Rattle.reach.proofs.Scans.{Less, less-lowest, less-lt, none-left}
-use Rattle.listing.proofs.Operations.{gone-first, gone-next, gone-last}
 use Rattle.listing.proofs.Filling.{with-at, with-both-length, near-first, at-first, near-next, at-next, zeros, ends-fit}
 use Rattle.listing.proofs.enumeration.fill_tables.Statement.{statement}
 use Rattle.listing.proofs.enumeration.fill_tables.Tie as tie

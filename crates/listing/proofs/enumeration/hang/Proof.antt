@@ -3,7 +3,7 @@
 use mathlib.Core.Path.{ap}
 use borrow.Author.Needs.{needs}
 use lib.ListN.{set}
-use Rattle.reach.proofs.Operations.{with-member}
+use Rattle.bitset.proofs.Results.{with-member}
 use Rattle.listing.proofs.enumeration.hang.Statement.{statement}
 use Rattle.listing.proofs.enumeration.hang.Tie as tie
 

@@ -3,8 +3,8 @@
 use mathlib.Core.Path.{ap, _∙_}
 use Prim.Native.Nat.{ℕ}
 use lib.Dec.{eqb}
-use Rattle.reach.proofs.Operations.{intersection-and}
 use borrow.Author.Needs.{needs}
+use Rattle.bitset.proofs.Results.{intersection-and}
 use Rattle.listing.proofs.enumeration.is_open.Statement.{statement}
 use Rattle.listing.proofs.enumeration.is_open.Tie as tie
 

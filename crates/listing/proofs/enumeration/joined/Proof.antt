@@ -5,11 +5,10 @@ use Prim.Native.Nat.{ℕ, _^_}
 use borrow.Author.Needs.{needs}
 use lib.Bits.{bitXor}
 use Rattle.bitset.specs.Members.{insert, _∖_}
+use Rattle.bitset.proofs.Results.{with-member, without-minus, union-or}
 use Rattle.graph.specs.Relevant.{reachIn}
 use Rattle.cuts.specs.declared.Branch.{Branch}
 use Rattle.cuts.specs.Enumeration.{joined}
-use Rattle.reach.proofs.Operations.{with-member, without-minus}
-use Rattle.listing.proofs.Operations.{union-or}
 use Rattle.listing.proofs.Halves.{beside-round, at-edges}
 use Rattle.listing.proofs.enumeration.joined.Statement.{statement}
 use Rattle.listing.proofs.enumeration.joined.Tie as tie

@@ -1,8 +1,8 @@
 -- `enumeration::left_out` meets its contract, field by field.
 -- Assumes nothing.
+use Rattle.bitset.proofs.Results.{with-member, without-minus}
 use Rattle.cuts.specs.declared.Branch.{Branch}
 use Rattle.cuts.specs.Enumeration.{leftOut}
-use Rattle.reach.proofs.Operations.{with-member, without-minus}
 use borrow.Author.Needs.{needs}
 use Rattle.listing.proofs.enumeration.left_out.Statement.{statement}
 use Rattle.listing.proofs.enumeration.left_out.Tie as tie

@@ -7,9 +7,9 @@ use borrow.Author.Needs.{needs}
 use lib.ListN.{getD}
 use Rattle.bitset.specs.Members.{_∖_}
 use Rattle.bitset.proofs.Subsets.{subset-le, ⊆-refl}
-use Rattle.graph.proofs.Sets.{minus-⊆}
-use Rattle.reach.proofs.Scans.{less-lowest, none-left}
-use Rattle.listing.proofs.Operations.{in-alone}
+use Rattle.bitset.proofs.Sets.{minus-⊆}
+use Rattle.bitset.proofs.Scans.{less-lowest, none-left}
+use Rattle.bitset.proofs.Results.{in-alone}
 use Rattle.listing.proofs.Spread.{Spread, Turn, turn-of, spread-first, spread-next, settled-more, spread-last}
 use Rattle.listing.proofs.enumeration.reach_in.Statement.{statement}
 use Rattle.listing.proofs.enumeration.reach_in.Tie as tie

@@ -4,11 +4,10 @@ use mathlib.Core.Path.{_≡_, sym, ap, _∙_}
 use mathlib.Core.Bool.{false}
 use Prim.Native.Nat.{ℕ}
 use borrow.Author.Needs.{needs}
-use lib.Dec.{T}
-use Rattle.bitset.specs.Members.{has}
+use Rattle.bitset.specs.Members.{has, _∈_}
+use Rattle.bitset.proofs.Results.{without-minus}
+use Rattle.bitset.proofs.Sets.{drop-none}
 use Rattle.graph.specs.Relevant.{reachIn}
-use Rattle.reach.proofs.Operations.{without-minus}
-use Rattle.listing.proofs.Operations.{drop-none}
 use Rattle.listing.proofs.enumeration.rest_without.Statement.{statement}
 use Rattle.listing.proofs.enumeration.rest_without.Tie as tie
 
@@ -31,7 +30,7 @@ returns-2 : tie.Need-returns-2
 returns-2 c M B table there whole =
     let a = c .before .before .args in
     let lacks : has (a .rest .0) (a .v) ≡ false = sym (c .before .contains .ensures) ∙ c .if1 .left in
-    let off : T (has (a .rest .0) (a .v)) → ⊥ = λ m. rw lacks at m in
+    let off : a .v ∈ a .rest .0 → ⊥ = λ m. rw lacks at m in
     sym (ap (λ (x : ℕ). reachIn M x (a .sink)) (drop-none (a .rest .0) (a .v) off) ∙ whole off)
 
 pub rest-without-spec : {M : Type 1} → statement M

@@ -7,9 +7,9 @@ use borrow.Author.Needs.{needs}
 use denote.Floats.{passes}
 use lib.Dec.{T}
 use Rattle.bitset.specs.Members.{_∖_}
+use Rattle.bitset.proofs.Results.{without-minus}
+use Rattle.bitset.proofs.Scans.{Less, less-lowest, less-lt, none-left, Done, done-first, done-next}
 use Rattle.graph.specs.CutTests.{severed}
-use Rattle.reach.proofs.Operations.{without-minus}
-use Rattle.reach.proofs.Scans.{Less, less-lowest, less-lt, none-left, Done, done-first, done-next}
 use Rattle.reach.proofs.Answers.{needed-true, needed-false}
 use Rattle.reach.proofs.judging.all_needed.Statement.{statement}
 use Rattle.reach.proofs.judging.all_needed.Tie as tie

@@ -1,10 +1,10 @@
 -- `judging::severed` meets its contract: the spread is over the edges outside the set, from the source.
 -- Assumes nothing.
 use native.Mathlib.Omega.{arith}
+use Rattle.bitset.proofs.Sets.{minus-⊆}
+use Rattle.bitset.proofs.Results.{single-power, difference-minus}
 use Rattle.graph.specs.CutTests.{severed}
-use Rattle.graph.proofs.Sets.{minus-⊆}
 use Rattle.graph.proofs.Sound.{accepted-sound}
-use Rattle.reach.proofs.Operations.{single-power, difference-minus}
 use borrow.Author.Needs.{needs}
 use Rattle.reach.proofs.judging.severed.Statement.{statement}
 use Rattle.reach.proofs.judging.severed.Tie as tie

@@ -2,7 +2,7 @@
 -- The measure is the set of edges left. Assumes nothing.
 use Prim.Native.Nat.{_^_, _<_}
 use borrow.Author.Needs.{needs}
-use Rattle.reach.proofs.Scans.{Less, less-lowest, less-lt, none-left, Gathered, gathered-first, gathered-next, gathered-last}
+use Rattle.bitset.proofs.Scans.{Less, less-lowest, less-lt, none-left, Gathered, gathered-first, gathered-next, gathered-last}
 use Rattle.reach.proofs.Nodes.{Within, in-kept, kept-all}
 use Rattle.reach.proofs.part.edges_within.Statement.{statement}
 use Rattle.reach.proofs.part.edges_within.Tie as tie

@@ -1,8 +1,8 @@
 -- `part::relevant` meets its contract: the refusal beside two empty sets, or the relevant nodes and the edges within them.
 -- Assumes nothing.
 use mathlib.Core.Path.{sym, ap, _∙_}
+use Rattle.bitset.proofs.Results.{empty-zero}
 use Rattle.graph.specs.Relevant.{edgesWithin, relevantEdges}
-use Rattle.reach.proofs.Operations.{empty-zero}
 use Rattle.reach.proofs.Answers.{part-refused, part-accepted}
 use borrow.Author.Needs.{needs}
 use Rattle.reach.proofs.part.relevant.Statement.{statement}

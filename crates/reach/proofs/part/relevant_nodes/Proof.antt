@@ -6,9 +6,9 @@ use native.Mathlib.Numerals.{add-one}
 use native.Mathlib.Omega.{arith}
 use borrow.Author.Needs.{needs}
 use lib.Bits.{bitAnd}
+use Rattle.bitset.proofs.Results.{below-ones, intersection-and}
 use Rattle.graph.specs.Relevant.{pastAll, relevantNodes}
 use Rattle.graph.proofs.Sound.{accepted-sound}
-use Rattle.reach.proofs.Operations.{below-ones, intersection-and}
 use Rattle.reach.proofs.part.relevant_nodes.Statement.{statement}
 use Rattle.reach.proofs.part.relevant_nodes.Tie as tie
 

@@ -1,6 +1,6 @@
 -- `spread::across` meets its contract: what does not fit after the first end is not kept after the second.
 -- Assumes nothing.
-use Rattle.reach.proofs.Operations.{addIf-mod}
+use Rattle.reach.proofs.Fitting.{addIf-mod}
 use borrow.Author.Needs.{needs}
 use Rattle.reach.proofs.spread.across.Statement.{statement}
 use Rattle.reach.proofs.spread.across.Tie as tie

@@ -2,8 +2,8 @@
 -- Assumes nothing.
 use mathlib.Core.Path.{sym}
 use native.Mathlib.Nat.{mod-eq-of-lt}
+use Rattle.bitset.proofs.Results.{with-insert}
 use Rattle.graph.specs.Reach.{addIf}
-use Rattle.reach.proofs.Operations.{with-insert}
 use borrow.Author.Needs.{needs}
 use Rattle.reach.proofs.spread.add_if.Statement.{statement}
 use Rattle.reach.proofs.spread.add_if.Tie as tie

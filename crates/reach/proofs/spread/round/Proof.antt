@@ -2,9 +2,9 @@
 -- The measure is the set of edges left. Assumes nothing.
 use Prim.Native.Nat.{_^_, _<_}
 use borrow.Author.Needs.{needs}
+use Rattle.bitset.proofs.Scans.{Less, less-lowest, less-lt, none-left, Gathered, gathered-first, gathered-next, gathered-last}
 use Rattle.graph.specs.Cuts.{only}
 use Rattle.graph.specs.Reach.{across}
-use Rattle.reach.proofs.Scans.{Less, less-lowest, less-lt, none-left, Gathered, gathered-first, gathered-next, gathered-last}
 use Rattle.reach.proofs.Rounds.{BesideFits, in-across-fits, round-fits}
 use Rattle.reach.proofs.spread.round.Statement.{statement}
 use Rattle.reach.proofs.spread.round.Tie as tie

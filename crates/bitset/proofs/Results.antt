@@ -1,22 +1,18 @@
--- What the methods of the sets give, as equations of numbers; and words of w bits, which keep the members below w.
+-- What the methods of the sets give, as equations of numbers.
 -- Assumes nothing.
 use mathlib.Core.Path.{_≡_, refl}
 use mathlib.Core.Bool.{Bool, true, false, not, _&&_, _||_, and-true, or-false, true≢false}
 use mathlib.Core.Logic.{_↔_}
 use Prim.Native.Nat.{ℕ, _-_, _%_, _^_, _≤_, _<_}
-use native.Mathlib.Nat.{mod-eq-of-lt, mod-mod}
+use native.Mathlib.Nat.{mod-eq-of-lt}
 use native.Mathlib.Omega.{arith}
 use borrow.Author.Tests.{lt-ltb}
-use lib.Bits.{bitAnd}
+use lib.Bits.{bitAnd, bitOr}
 use lib.Dec.{eqb, ltb, ltb→lt, lt→ltb}
-use Rattle.bitset.specs.Members.{has, insert, _∖_}
-use Rattle.bitset.proofs.Members.{same-members, has-zero, has-power, has-ones, has-mod, has-and, has-minus, has-insert, eqb-cases}
+use Rattle.bitset.specs.Members.{has, _∈_, insert, _∖_}
+use Rattle.bitset.proofs.Tests.{T-and, T-eqb}
+use Rattle.bitset.proofs.Members.{same-members, has-zero, has-power, has-ones, has-mod, has-and, has-or, has-minus, has-insert, eqb-cases}
 use Rattle.bitset.proofs.Subsets.{and-absorb}
-use Rattle.graph.specs.Reach.{addIf}
-use Rattle.graph.proofs.Tests.{T-and}
-use Rattle.graph.proofs.Sets.{_∈_}
-
--- ---- methods
 
 -- The empty set is 0.
 pub empty-zero : (t : ℕ) → ((j : ℕ) → has t j ≡ false) → t ≡ 0
@@ -51,17 +47,22 @@ difference-minus s u t less = same-members t (s ∖ u) (λ j. rw (less j, has-mi
 pub intersection-and : (s u t : ℕ) → ((j : ℕ) → has t j ≡ has s j && has u j) → t ≡ bitAnd s u
 intersection-and s u t both = same-members t (bitAnd s u) (λ j. rw (both j, has-and s u j))
 
--- ---- words
+-- The members of either.
+pub union-or : (s u t : ℕ) → ((j : ℕ) → has t j ≡ has s j || has u j) → t ≡ bitOr s u
+union-or s u t either = same-members t (bitOr s u) (λ j. rw (either j, has-or s u j))
+
+-- The set of a number alone, if that is below 32.
+pub in-alone : (k t : ℕ) → ((j : ℕ) → has t j ≡ eqb j k && ltb k 32) → (j : ℕ) → (j ∈ t) ↔ ((j ≡ k) × (k < 32))
+in-alone k t alone j =
+    let both = T-and (eqb j k) (ltb k 32) in
+    rw (alone j) (
+      λ m. let p = both .0 m in (T-eqb j k .0 (p .0), ltb→lt k 32 (p .1)),
+      λ p. both .1 (T-eqb j k .1 (p .0), lt→ltb k 32 (p .1)),
+    )
 
 -- A set below 2 ^ w has no member past w.
 has-within : (w s : ℕ) → s < 2 ^ w → (j : ℕ) → has s j ≡ ltb j w && has s j
 has-within w s h j = rw (mod-eq-of-lt h) at (has-mod w s j)
-
--- Of a word of w bits, the members are those of the number that are below w.
-pub in-mod : (w s j : ℕ) → (j ∈ (s % 2 ^ w)) ↔ ((j < w) × (j ∈ s))
-in-mod w s j =
-    let both = T-and (ltb j w) (has s j) in
-    rw (has-mod w s j) (λ m. let p = both .0 m in (ltb→lt j w (p .0), p .1), λ p. both .1 (lt→ltb j w (p .0), p .1))
 
 -- To add k to a word where k is below its width is to insert it, and to keep what fits.
 pub with-insert : (w s k t : ℕ) → s < 2 ^ w → ((j : ℕ) → has t j ≡ has s j || (eqb j k && ltb k w)) → t ≡ insert s k % 2 ^ w
@@ -77,16 +78,3 @@ with-insert w s k t h added =
     here true false e = absurd (true≢false e)
     here false true e = refl
     here false false e = refl
-
--- What does not fit before an insertion does not fit after it.
-pub addIf-mod : (w : ℕ) (b : Bool) (s v : ℕ) → addIf b (s % 2 ^ w) v % 2 ^ w ≡ addIf b s v % 2 ^ w
-unfolding addIf
-addIf-mod w true s v =
-    same-members (insert (s % 2 ^ w) v % 2 ^ w) (insert s v % 2 ^ w) (λ j.
-    rw (has-mod w (insert (s % 2 ^ w) v) j, has-insert (s % 2 ^ w) v j, has-mod w s j, has-mod w (insert s v) j, has-insert s v j)
-    (twice (ltb j w) (has s j) (eqb j v)))
-  where
-    twice : (l a q : Bool) → l && ((l && a) || q) ≡ l && (a || q)
-    twice true a q = refl
-    twice false a q = refl
-addIf-mod w false s v = mod-mod s (2 ^ w)

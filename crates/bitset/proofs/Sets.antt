@@ -1,32 +1,33 @@
 -- Membership as a proposition: what it is to be a member after each operation on a set, and that this is decided.
 -- Assumes nothing.
-use mathlib.Core.Path.{_≡_, refl, sym, _∙_}
-use mathlib.Core.Bool.{Bool, true, false, not}
-use mathlib.Core.List.{[], _∷_, List·Memᴰ, List·Memᴰ·head, List·Memᴰ·tail, List·Memᴰ·not-nil, List·Memᴰ·cases-cons}
+use mathlib.Core.Path.{_≡_, refl, sym, ap, _∙_}
+use mathlib.Core.Bool.{false, not}
 use mathlib.Core.Logic.{_⊎_, inl, inr, ⊎-map, _↔_, Dec·not-not}
-use Prim.Native.Nat.{ℕ, zero, suc, _+_, _^_, _≤_, _<_, zero-le}
+use Prim.Native.Nat.{ℕ, suc, _%_, _^_, _<_}
 use native.Mathlib.Nat.{lt-of-not-le, eq-or-lt-of-le}
-use native.Mathlib.Omega.{arith}
-use borrow.Author.Tests.{ltb-true}
+use native.Mathlib.Decide.{ℕ-discrete}
 use denote.Floats.{passes}
-use lib.Bits.{bitAnd}
+use lib.Bits.{bitAnd, bitOr, or-zero-l}
 use lib.Count.{trailingZeros}
 use lib.Pow.{pow-pos}
-use lib.Dec.{T, eqb, ltb}
-use Rattle.bitset.specs.Members.{has, _⊆_, insert, _∖_}
-use Rattle.bitset.proofs.Members.{same-members-below, lt-pow, has-bounded, has-zero, has-power, has-and, has-minus, has-insert}
-use Rattle.bitset.proofs.Size.{lowest-trailing, lowest-none}
-use Rattle.graph.specs.MemberList.{membersFrom, members}
-use Rattle.graph.proofs.Tests.{T-dec, T-or, T-and, T-not, T-eqb}
-
-infix 40 _∈_
--- k is a member of s.
-abbrev pub _∈_ : ℕ → ℕ → Type 0
-k ∈ s = T (has s k)
+use lib.Dec.{eqb, ltb, ltb→lt, lt→ltb}
+use Rattle.bitset.specs.Members.{has, _∈_, _⊆_, insert, _∖_, size}
+use Rattle.bitset.proofs.Tests.{T-dec, T-or, T-and, T-not, T-eqb}
+use Rattle.bitset.proofs.Members.{same-members-below, lt-pow, has-bounded, has-zero, has-power, has-and, has-or, has-minus, has-insert, has-mod, insert-or}
+use Rattle.bitset.proofs.Subsets.{same-test, ⊆-antisym}
+use Rattle.bitset.proofs.Size.{size-insert, lowest-trailing, lowest-none}
 
 -- Membership is decided.
 pub ∈-dec : (k s : ℕ) → Dec (k ∈ s)
 ∈-dec k s = T-dec (has s k)
+
+-- Two sets are equal if each number is a member of both or of neither.
+pub same-set : {s t : ℕ} → ((k : ℕ) → (k ∈ s) ↔ (k ∈ t)) → s ≡ t
+same-set {s} {t} same = ⊆-antisym s t (λ k. same k .0) (λ k. same k .1)
+
+-- The empty set has no member.
+pub not-zero : (k : ℕ) → k ∈ 0 → ⊥
+not-zero k m = rw (has-zero k) at m
 
 -- The members after an insertion.
 pub in-insert : (s k j : ℕ) → (j ∈ insert s k) ↔ ((j ∈ s) ⊎ (j ≡ k))
@@ -35,9 +36,24 @@ in-insert s k j = rw (has-insert s k j) (
   λ c. T-or (has s j) (eqb j k) .1 (⊎-map (λ m. m) (T-eqb j k .1) c),
 )
 
+-- What is no member after an insertion.
+pub not-insert : (s v k : ℕ) → (k ∈ insert s v → ⊥) ↔ ((k ∈ s → ⊥) × (k ≡ v → ⊥))
+not-insert s v k = (
+  λ n. (λ m. n (in-insert s v k .1 (inl m)), λ e. n (in-insert s v k .1 (inr e))),
+  λ n m. elim (in-insert s v k .0 m) [ inl l ↦ n .0 l | inr e ↦ n .1 e ],
+)
+
+-- To insert into the empty set gives the one member.
+pub insert-zero : (k : ℕ) → insert 0 k ≡ 2 ^ k
+insert-zero k = insert-or 0 k ∙ or-zero-l (2 ^ k)
+
 -- The members of both.
 pub in-and : (s t j : ℕ) → (j ∈ bitAnd s t) ↔ ((j ∈ s) × (j ∈ t))
 in-and s t j = rw (has-and s t j) (T-and (has s j) (has t j))
+
+-- The members of either.
+pub in-or : (s t k : ℕ) → (k ∈ bitOr s t) ↔ ((k ∈ s) ⊎ (k ∈ t))
+in-or s t k = rw (has-or s t k) (T-or (has s k) (has t k))
 
 -- The members of a difference.
 pub in-minus : (s t j : ℕ) → (j ∈ (s ∖ t)) ↔ ((j ∈ s) × (j ∈ t → ⊥))
@@ -72,9 +88,19 @@ in-drop s k j = (
   λ p. in-minus s (2 ^ k) j .1 (p .0, λ m. p .1 (in-single k j .0 m)),
 )
 
+-- To take away what is no member changes nothing.
+pub drop-none : (s v : ℕ) → (v ∈ s → ⊥) → s ∖ 2 ^ v ≡ s
+drop-none s v off = same-set (λ k. (λ m. in-drop s v k .0 m .0, λ m. in-drop s v k .1 (m, λ e. off (rw e at m))))
+
 -- A member of a set below 2 ^ w is below w.
 pub member-lt : (w s k : ℕ) → s < 2 ^ w → k ∈ s → k < w
 member-lt w s k h m = lt-of-not-le (λ l. rw (has-bounded w h k l) at m)
+
+-- Of a word of w bits, the members are those of the number that are below w.
+pub in-mod : (w s j : ℕ) → (j ∈ (s % 2 ^ w)) ↔ ((j < w) × (j ∈ s))
+in-mod w s j =
+    let both = T-and (ltb j w) (has s j) in
+    rw (has-mod w s j) (λ m. let p = both .0 m in (ltb→lt j w (p .0), p .1), λ p. both .1 (lt→ltb j w (p .0), p .1))
 
 -- A set that is not empty has a member.
 pub empty-or-member : (s : ℕ) → (s ≡ 0) ⊎ ((k : ℕ) × (k ∈ s))
@@ -86,32 +112,19 @@ empty-or-member s = go (eq-or-lt-of-le (lowest-trailing s s .within))
         inl (same-members-below s (lt-pow s) (pow-pos s) (λ k h. none k h ∙ sym (has-zero k)))
     go (inr h) = inr (trailingZeros s s, passes (has s (trailingZeros s s)) (lowest-trailing s s .member h))
 
--- The list of the members from k on has exactly those.
-in-membersFrom : (s k n j : ℕ) → List·Memᴰ j (membersFrom s k n) ↔ ((j ∈ s) × (k ≤ j) × (j < k + n))
-unfolding membersFrom
-in-membersFrom s k zero j = (λ m. absurd (List·Memᴰ·not-nil m), λ p. absurd (omega arith))
-in-membersFrom s k (suc n) j = go (ltb s (2 ^ k)) refl (has s k) refl (in-membersFrom s (suc k) n j)
+-- To take off a member is to have one fewer.
+pub size-drop : (w s v : ℕ) → v < w → v ∈ s → size w s ≡ suc (size w (s ∖ 2 ^ v))
+size-drop w s v h m = ap (size w) (sym whole) ∙ size-insert w (s ∖ 2 ^ v) v h lacks
   where
-    go : (a : Bool) → ltb s (2 ^ k) ≡ a → (b : Bool) → has s k ≡ b
-        → List·Memᴰ j (membersFrom s (suc k) n) ↔ ((j ∈ s) × (suc k ≤ j) × (j < suc k + n))
-        → List·Memᴰ j (elim a [ true ↦ [] | false ↦ elim b [ true ↦ k ∷ membersFrom s (suc k) n | false ↦ membersFrom s (suc k) n ] ])
-        ↔ ((j ∈ s) × (k ≤ j) × (j < k + suc n))
-    go true e b f rest = (λ m. absurd (List·Memᴰ·not-nil m), λ p. absurd (rw (has-bounded k (ltb-true s (2 ^ k) e) j (p .1)) at (p .0)))
-    go false e true f rest = (
-      λ m. elim (List·Memᴰ·cases-cons m) [
-        | inl q ↦ (rw (q, f) tt, omega arith, omega arith)
-        | inr l ↦ let p = rest .0 l in (p .0, omega arith, omega arith)
-      ],
-      λ p. elim (eq-or-lt-of-le (p .1)) [ inl q ↦ List·Memᴰ·head (sym q) | inr l ↦ List·Memᴰ·tail (rest .1 (p .0, l, omega arith)) ],
-    )
-    go false e false f rest = (
-      λ m. let p = rest .0 m in (p .0, omega arith, omega arith),
-      λ p. elim (eq-or-lt-of-le (p .1)) [ inl q ↦ absurd (rw (← q, f) at (p .0)) | inr l ↦ rest .1 (p .0, l, omega arith) ],
-    )
+    lacks : has (s ∖ 2 ^ v) v ≡ false
+    lacks = same-test (has (s ∖ 2 ^ v) v) false (λ i. in-drop s v v .0 i .1 refl) absurd
 
--- The list of the members below w has exactly those.
-pub in-members : (w s j : ℕ) → List·Memᴰ j (members w s) ↔ ((j ∈ s) × (j < w))
-in-members w s j = (
-  λ m. let p = in-membersFrom s 0 w j .0 m in (p .0, omega arith),
-  λ p. in-membersFrom s 0 w j .1 (p .0, zero-le, omega arith),
-)
+    back : (k : ℕ) → k ∈ s → Dec (k ≡ v) → (k ∈ (s ∖ 2 ^ v)) ⊎ (k ≡ v)
+    back k i (yes e) = inr e
+    back k i (no n) = inl (in-drop s v k .1 (i, n))
+
+    whole : insert (s ∖ 2 ^ v) v ≡ s
+    whole = same-set (λ k. (
+      λ i. elim (in-insert (s ∖ 2 ^ v) v k .0 i) [ inl l ↦ in-drop s v k .0 l .0 | inr e ↦ rw e m ],
+      λ i. in-insert (s ∖ 2 ^ v) v k .1 (back k i (ℕ-discrete k v)),
+    ))

@@ -8,10 +8,11 @@ use native.Mathlib.Decide.{ℕ-discrete}
 use native.Mathlib.Omega.{arith}
 use denote.Floats.{is-true, passes}
 use lib.Dec.{eqb}
-use Rattle.bitset.specs.Members.{has, _⊆_, Lowest}
+use Rattle.bitset.specs.Members.{has, _∈_, _⊆_, insert, _∖_, Lowest}
 use Rattle.bitset.proofs.Subsets.{⊆-refl, subset-lt, same-test}
-use Rattle.graph.proofs.Tests.{T-and, T-not, T-eqb}
-use Rattle.graph.proofs.Sets.{_∈_, member-lt}
+use Rattle.bitset.proofs.Tests.{T-and, T-not, T-eqb}
+use Rattle.bitset.proofs.Members.{has-zero}
+use Rattle.bitset.proofs.Sets.{same-set, in-insert, in-minus, member-lt}
 
 -- The set t is s without its member k.
 pub record Less (s k t : ℕ) : Type 0 where
@@ -97,3 +98,27 @@ module _ (Comes : ℕ → ℕ → Type 0) (base all : ℕ) where
       → (v : ℕ) → (v ∈ acc) ↔ ((v ∈ base) ⊎ ((e : ℕ) × ((e ∈ all) × Comes e v)))
   gathered-last left acc none g v =
       (g .comes v, λ c. elim c [ inl m ↦ g .kept v m | inr j ↦ g .done .done (j .0) (j .1 .0) (none (j .0)) v (j .1 .1) ])
+
+-- ---- members gone through
+
+-- At first none is.
+pub gone-first : (s : ℕ) → s ∖ s ≡ 0
+gone-first s = same-set (λ k. (λ m. let p = in-minus s s k .0 m in absurd (p .1 (p .0)), λ m. absurd (rw (has-zero k) at m)))
+
+-- Where one fewer is left, one more is.
+pub gone-next : (s left k next : ℕ) → left ⊆ s → Less left k next → s ∖ next ≡ insert (s ∖ left) k
+gone-next s left k next within l = same-set (λ j. (
+  λ m. let p = in-minus s next j .0 m in in-insert (s ∖ left) k j .1 (go j (p .0) (p .1) (ℕ-discrete j k)),
+  λ m. elim (in-insert (s ∖ left) k j .0 m) [
+    | inl i ↦ let p = in-minus s left j .0 i in in-minus s next j .1 (p .0, λ n. p .1 (l .rest j .0 n .0))
+    | inr e ↦ rw e (in-minus s next k .1 (within k (l .member), λ n. l .rest k .0 n .1 refl))
+  ],
+))
+  where
+    go : (j : ℕ) → j ∈ s → (j ∈ next → ⊥) → Dec (j ≡ k) → (j ∈ (s ∖ left)) ⊎ (j ≡ k)
+    go j m n (yes e) = inr e
+    go j m n (no q) = inl (in-minus s left j .1 (m, λ i. n (l .rest j .1 (i, q))))
+
+-- Where none is left, all are.
+pub gone-last : (s left : ℕ) → ((j : ℕ) → j ∈ left → ⊥) → s ∖ left ≡ s
+gone-last s left none = same-set (λ j. (λ m. in-minus s left j .0 m .0, λ m. in-minus s left j .1 (m, none j)))

@@ -1,0 +1,4 @@
+-- The laws of lists that the kit does not have.
+pub mod Places
+pub mod Rising
+pub mod Stores

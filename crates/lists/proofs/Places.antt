@@ -1,0 +1,49 @@
+-- The places of a list and its members.
+-- Assumes nothing.
+use mathlib.Core.Path.{_≡_, refl, sym, ap, _∙_}
+use mathlib.Core.Logic.{_⊎_, inl, inr, _↔_}
+use mathlib.Core.List.{List, [], _∷_, List·Memᴰ, List·Memᴰ·head, List·Memᴰ·tail, List·Memᴰ·not-nil, List·Memᴰ·cases-cons, Memᴰ·cast, map, List·Permᴰ, List·Permᴰ·nil, List·Permᴰ·cons, List·Permᴰ·swap, List·Permᴰ·trans}
+use Prim.Native.Nat.{ℕ, zero, suc, _<_}
+use native.Mathlib.Nat.{le-of-suc-le-suc, not-suc-le-zero, zero-lt-suc}
+use native.Mathlib.Omega.{arith}
+use lib.ListN.{length, getD}
+
+-- What stands at a place of a list is a member.
+pub mem-at : {A : Type 0} (l : List A) (i : ℕ) (d : A) → i < length l → List·Memᴰ (getD l i d) l
+mem-at [] i d h = absurd (not-suc-le-zero h)
+mem-at (x ∷ l) zero d h = List·Memᴰ·head refl
+mem-at (x ∷ l) (suc i) d h = List·Memᴰ·tail (mem-at l i d (le-of-suc-le-suc h))
+
+-- A law of all places is a law of all members.
+pub at-mem : (P : ℕ → Type 0) (l : List ℕ) → ((i : ℕ) → i < length l → P (getD l i 0)) → {a : ℕ} → List·Memᴰ a l → P a
+at-mem P [] h m = absurd (List·Memᴰ·not-nil m)
+at-mem P (x ∷ l) h {a} m = go (at-mem P l (λ i k. h (suc i) (omega arith))) (List·Memᴰ·cases-cons m)
+  where
+    go : (List·Memᴰ a l → P a) → (a ≡ x) ⊎ List·Memᴰ a l → P a
+    go rest (inl e) = rw e (h 0 (zero-lt-suc (length l)))
+    go rest (inr n) = rest n
+
+-- A number is a member exactly if it stands at some place.
+pub mem-place : (l : List ℕ) (c : ℕ) → List·Memᴰ c l ↔ ((i : ℕ) × (i < length l) × (getD l i 0 ≡ c))
+mem-place l c = (place l, λ p. Memᴰ·cast (sym (p .2)) (mem-at l (p .0) 0 (p .1)))
+  where
+    place : (l : List ℕ) → List·Memᴰ c l → (i : ℕ) × (i < length l) × (getD l i 0 ≡ c)
+    place [] m = absurd (List·Memᴰ·not-nil m)
+    place (x ∷ l) m =
+        elim (List·Memᴰ·cases-cons m) [
+          | inl e ↦ (0, zero-lt-suc (length l), sym e)
+          | inr n ↦ let p = place l n in (suc (p .0), omega arith, p .2)
+        ]
+
+-- What stands at a place of the list of values is the value of what stands there.
+pub getD-map : (f : ℕ → ℕ) (l : List ℕ) (i : ℕ) → i < length l → getD (map f l) i 0 ≡ f (getD l i 0)
+getD-map f [] i h = absurd (not-suc-le-zero h)
+getD-map f (x ∷ l) zero h = refl
+getD-map f (x ∷ l) (suc i) h = getD-map f l i (le-of-suc-le-suc h)
+
+-- A permutation is as long.
+pub perm-length : {k l : List ℕ} → List·Permᴰ k l → length k ≡ length l
+perm-length List·Permᴰ·nil = refl
+perm-length (List·Permᴰ·cons e p) = ap suc (perm-length p)
+perm-length (List·Permᴰ·swap e f) = refl
+perm-length (List·Permᴰ·trans p q) = perm-length p ∙ perm-length q

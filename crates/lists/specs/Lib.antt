@@ -1,0 +1,2 @@
+-- Words for lists.
+pub mod Rising
