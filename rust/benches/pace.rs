@@ -1,7 +1,7 @@
 //! The list call beside the same method in ordinary Rust, both measured in one run: medians over
 //! repeated calls, the rows cleared before each.
 //!
-//! cargo bench --offline --features list
+//! cargo bench --offline
 
 use std::hint::black_box;
 use std::time::{Duration, Instant};

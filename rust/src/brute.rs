@@ -3,7 +3,7 @@
 use std::iter;
 
 use crate::answers::{Part, Row, Verdict};
-use crate::record::{Record, SLOTS};
+use crate::record::Record;
 
 /// A way from server to room that meets no point twice.
 #[derive(Clone, Copy, Debug, PartialEq, Eq, PartialOrd, Ord)]
@@ -28,7 +28,7 @@ fn walk(record: &Record, at: u8, path: Path, found: &mut Vec<Path>) {
         found.push(path);
         return;
     }
-    for edge in (0..SLOTS).filter(|&edge| record.holds(edge)) {
+    for edge in record.edges() {
         let next = match (record.first[edge], record.second[edge]) {
             (first, second) if first == at => second,
             (first, second) if second == at => first,

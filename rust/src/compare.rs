@@ -1,9 +1,8 @@
 //! One question put to the library and to the reference, and the answers compared.
 
-#[cfg(feature = "graph")]
-use crate::answers::{Part, Verdict};
-#[cfg(feature = "list")]
-use crate::answers::{Row, Widths};
+use std::fmt::LowerHex;
+
+use crate::answers::{Part, Row, Verdict, Widths};
 use crate::record::Record;
 use crate::reference::{self, LONGEST_PLAN};
 use crate::sys;
@@ -69,7 +68,6 @@ pub fn encode(record: &Record, before: &[u8]) -> u8 {
 
 /// Finds the useful part of a record; `part` is what it should be if the record has no fault. Gives
 /// the refusal number.
-#[cfg(feature = "graph")]
 pub fn relevant(record: &Record, part: Part) -> u8 {
     let number = reference::number(&reference::fault(record));
     let part = if number == 0 { part } else { Part::default() };
@@ -79,7 +77,6 @@ pub fn relevant(record: &Record, part: Part) -> u8 {
 }
 
 /// Judges a set; `verdict` is what it should be if nothing is refused. Gives the refusal number.
-#[cfg(feature = "graph")]
 pub fn classify(record: &Record, set: u64, verdict: Verdict) -> u8 {
     let number = match reference::number(&reference::fault(record)) {
         0 if set & !record.present != 0 => 14,
@@ -91,19 +88,26 @@ pub fn classify(record: &Record, set: u64, verdict: Verdict) -> u8 {
     number
 }
 
-/// Lists a record over what the rows held; `rows` is the whole list if the record has no fault.
-/// What the rows hold afterwards is fixed to the last word. Gives the refusal number.
-#[cfg(feature = "list")]
-pub fn list(record: &Record, rows: &[Row], cuts_before: &[u64], sides_before: &[u32]) -> u8 {
+/// Lists a record over what the rows held; if the record has no fault, `rows` is the whole list, or
+/// `None` for a list longer than the rows lent. What the rows hold afterwards is fixed to the last
+/// word. Gives the refusal number.
+pub fn list(
+    record: &Record,
+    rows: Option<&[Row]>,
+    cuts_before: &[u64],
+    sides_before: &[u32],
+) -> u8 {
+    let fits = rows.filter(|rows| rows.len() <= cuts_before.len());
     let number = match reference::number(&reference::fault(record)) {
         0 if cuts_before.len() != sides_before.len() => 11,
-        0 if rows.len() > cuts_before.len() => 12,
+        0 if fits.is_none() => 12,
         number => number,
     };
-    let count = if number == 0 { rows.len() } else { 0 };
+    let listed = fits.filter(|_| number == 0).unwrap_or_default();
+    let count = listed.len();
     let mut expected_cuts = cuts_before.to_vec();
     let mut expected_sides = sides_before.to_vec();
-    for (place, row) in rows[..count].iter().enumerate() {
+    for (place, row) in listed.iter().enumerate() {
         expected_cuts[place] = row.cut;
         expected_sides[place] = row.side;
     }
@@ -112,16 +116,21 @@ pub fn list(record: &Record, rows: &[Row], cuts_before: &[u64], sides_before: &[
     let mut sides = sides_before.to_vec();
     let answer = sys::list(record, &mut cuts, &mut sides);
     assert_eq!(answer, (number, count), "record {record:?}");
-    assert!(cuts == expected_cuts, "wrong cut rows, record {record:?}");
-    assert!(
-        sides == expected_sides,
-        "wrong side rows, record {record:?}"
-    );
+    assert_rows("cut", &cuts, &expected_cuts, record);
+    assert_rows("side", &sides, &expected_sides, record);
     number
 }
 
+fn assert_rows<T: PartialEq + LowerHex>(kind: &str, rows: &[T], expected: &[T], record: &Record) {
+    if let Some(place) = (0..rows.len()).find(|&place| rows[place] != expected[place]) {
+        panic!(
+            "{kind} row {place} is {:#x}, not {:#x}; record {record:?}",
+            rows[place], expected[place]
+        );
+    }
+}
+
 /// Counts the rows of a list by width.
-#[cfg(feature = "list")]
 pub fn widths(cuts: &[u64]) -> Widths {
     let mut expected = [0; 65];
     for cut in cuts {

@@ -43,10 +43,14 @@ pub fn line_of_three_exchanged() -> Record {
 
 /// Every pair of points joined; the room is the last point.
 pub fn complete(nodes: u8) -> Record {
-    let ends: Vec<(u8, u8)> = (0..nodes)
+    hall(nodes, nodes - 1, &pairs(nodes))
+}
+
+/// Every pair of points.
+pub fn pairs(nodes: u8) -> Vec<(u8, u8)> {
+    (0..nodes)
         .flat_map(|one| (one + 1..nodes).map(move |other| (one, other)))
-        .collect();
-    hall(nodes, nodes - 1, &ends)
+        .collect()
 }
 
 /// The server joined to each of a line of points, the line's far end to the room.

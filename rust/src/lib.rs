@@ -13,11 +13,13 @@
 //! - `rng`: a small generator with a fixed seed
 //! - `halls`: halls with a name or a pattern
 //! - `plans`: random records, and damage to plans and records
-//! - `tally`: how often each refusal number occurred
+//! - `tally`: how often each refusal number and each verdict occurred
+//! - `fuzz`: arbitrary bytes as questions for every function
 
 pub mod answers;
 pub mod brute;
 pub mod compare;
+pub mod fuzz;
 pub mod halls;
 pub mod lent;
 pub mod ordinary;

@@ -1,5 +1,6 @@
 //! Random records, and damage to plans and records.
 
+use crate::halls;
 use crate::record::{Record, SLOTS};
 use crate::reference::{self, LONGEST_PLAN};
 use crate::rng::Rng;
@@ -74,7 +75,7 @@ pub fn small(rng: &mut Rng, most: usize) -> Record {
         }
         // Each pair at most once.
         6 => {
-            let mut ends = pairs(nodes);
+            let mut ends = halls::pairs(nodes);
             rng.shuffle(&mut ends);
             ends
         }
@@ -110,7 +111,7 @@ pub fn renamed(rng: &mut Rng, record: &Record) -> Record {
     rng.shuffle(&mut names);
     let name = |node: u8| names[usize::from(node)];
     let mut other = Record::bare(record.nodes, name(record.source), name(record.sink));
-    for edge in (0..SLOTS).filter(|&edge| record.holds(edge)) {
+    for edge in record.edges() {
         let (first, second) = (name(record.first[edge]), name(record.second[edge]));
         other = match rng.once_in(2) {
             true => other.with(edge, first, second),
@@ -129,7 +130,7 @@ pub fn twisted(rng: &mut Rng, record: &Record) -> Option<Record> {
     let mut inside = 1u32 << start;
     loop {
         let mut more = inside;
-        for edge in (0..SLOTS).filter(|&edge| record.holds(edge)) {
+        for edge in record.edges() {
             let ends = 1 << record.first[edge] | 1 << record.second[edge];
             if ends & inside != 0 {
                 more |= ends & !fixed;
@@ -149,7 +150,7 @@ pub fn twisted(rng: &mut Rng, record: &Record) -> Option<Record> {
         node if node == other => one,
         node => node,
     };
-    for edge in (0..SLOTS).filter(|&edge| record.holds(edge)) {
+    for edge in record.edges() {
         let (first, second) = (record.first[edge], record.second[edge]);
         if (inside >> first | inside >> second) & 1 == 1 {
             twisted = twisted.with(edge, turn(first), turn(second));
@@ -171,13 +172,6 @@ fn scattered(rng: &mut Rng, nodes: u8, most: usize) -> Vec<(u8, u8)> {
         }
     }
     ends
-}
-
-/// Every pair of points.
-fn pairs(nodes: u8) -> Vec<(u8, u8)> {
-    (0..nodes)
-        .flat_map(|one| (one + 1..nodes).map(move |other| (one, other)))
-        .collect()
 }
 
 /// An earlier point for this one to hang on.
@@ -347,6 +341,18 @@ impl Damage {
         }
         plan
     }
+}
+
+/// The commands of a plan with few values in them, so that many faults stand in one plan.
+pub fn of_few_values(rng: &mut Rng) -> Vec<u8> {
+    let nodes = rng.pick(&[1, 2, 3, 4, 32, 33]);
+    let mut plan = vec![0x50, nodes, 0x53, rng.below(4) as u8, rng.below(4) as u8];
+    for _ in 0..rng.below(6) {
+        let edge = rng.pick(&[0, 1, 2, 3, 4, 5, 6, 7, 62, 63, 64]);
+        plan.extend([0x43, edge, rng.below(4) as u8, rng.below(4) as u8]);
+    }
+    plan.push(0x45);
+    plan
 }
 
 /// A byte, often one with a meaning.

@@ -45,6 +45,11 @@ impl Record {
     pub fn holds(&self, edge: usize) -> bool {
         self.present >> edge & 1 == 1
     }
+
+    /// The edges present, rising.
+    pub fn edges(&self) -> impl Iterator<Item = usize> + '_ {
+        (0..SLOTS).filter(|&edge| self.holds(edge))
+    }
 }
 
 /// The all-zero record.

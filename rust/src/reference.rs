@@ -90,7 +90,7 @@ pub fn fault(record: &Record) -> Result<(), Refusal> {
 pub fn encode(record: &Record, room: usize) -> Result<Vec<u8>, Refusal> {
     fault(record)?;
     let mut plan = vec![0x50, record.nodes, 0x53, record.source, record.sink];
-    for edge in (0..SLOTS).filter(|&edge| record.holds(edge)) {
+    for edge in record.edges() {
         plan.extend([0x43, edge as u8, record.first[edge], record.second[edge]]);
     }
     plan.push(0x45);

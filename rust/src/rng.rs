@@ -7,6 +7,11 @@ impl Rng {
         Rng(seed)
     }
 
+    /// A generator of its own for each number, under one seed.
+    pub fn numbered(seed: u64, number: u64) -> Rng {
+        Rng(Rng(seed).draw() ^ Rng(!number).draw())
+    }
+
     pub fn draw(&mut self) -> u64 {
         self.0 = self.0.wrapping_add(0x9E37_79B9_7F4A_7C15);
         let mut z = self.0;

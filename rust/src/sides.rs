@@ -2,8 +2,9 @@
 
 use std::collections::HashSet;
 
-use crate::answers::{Part, Row};
-use crate::record::{Record, SLOTS};
+use crate::answers::{Part, Row, Verdict};
+use crate::brute::members;
+use crate::record::Record;
 
 /// The useful part by ears: one way from server to room, and then, as long as there are any, ways
 /// that leave the part so far at one point and come back to it at another.
@@ -103,7 +104,7 @@ pub fn list_by_subsets(record: &Record) -> Vec<Row> {
 pub fn list_by_growth(record: &Record, most: usize) -> Option<Vec<Row>> {
     let part = relevant(record);
     if part.edges == 0 {
-        return Some(vec![alone(record)]);
+        return (most > 0).then(|| vec![alone(record)]);
     }
     let beside = neighbours(record, part.edges);
     let (source, sink) = (1u32 << record.source, 1u32 << record.sink);
@@ -132,6 +133,22 @@ pub fn list_by_growth(record: &Record, most: usize) -> Option<Vec<Row>> {
     Some(rows)
 }
 
+/// Judges a set of present cables: by what the server reaches without them, and without all but one
+/// of them.
+pub fn verdict(record: &Record, set: u64) -> Verdict {
+    let is_cut = |set: u64| {
+        let beside = neighbours(record, record.present & !set);
+        reach(&beside, 1 << record.source, u32::MAX) >> record.sink & 1 == 0
+    };
+    if !is_cut(set) {
+        Verdict::NotACut
+    } else if members(set).any(|edge| is_cut(set & !(1 << edge))) {
+        Verdict::NotMinimal
+    } else {
+        Verdict::Minimal
+    }
+}
+
 /// The one row of a plan without a route.
 fn alone(record: &Record) -> Row {
     Row {
@@ -151,15 +168,16 @@ fn row(record: &Record, part: Part, side: u32) -> Row {
 
 /// The present cables whose ends are such.
 fn edges_where(record: &Record, such: impl Fn(u8, u8) -> bool) -> u64 {
-    (0..SLOTS)
-        .filter(|&edge| record.holds(edge) && such(record.first[edge], record.second[edge]))
+    record
+        .edges()
+        .filter(|&edge| such(record.first[edge], record.second[edge]))
         .fold(0, |set, edge| set | 1 << edge)
 }
 
 /// The nodes beside each node, over these edges.
 fn neighbours(record: &Record, edges: u64) -> [u32; 32] {
     let mut beside = [0; 32];
-    for edge in (0..SLOTS).filter(|edge| edges >> edge & 1 == 1) {
+    for edge in members(edges) {
         let (first, second) = (record.first[edge], record.second[edge]);
         beside[usize::from(first)] |= 1 << second;
         beside[usize::from(second)] |= 1 << first;

@@ -1,13 +1,8 @@
 //! The library's functions. Every call is made on guarded memory: what is lent for reading must be
 //! the same afterwards, and nothing beside lent memory may be written.
 
-#[cfg(feature = "graph")]
-use crate::answers::Part;
-#[cfg(feature = "list")]
-use crate::answers::Widths;
-#[cfg(feature = "list")]
-use crate::lent::Rows;
-use crate::lent::{self, Guarded};
+use crate::answers::{Part, Widths};
+use crate::lent::{Guarded, Rows};
 use crate::record::{Record, SLOTS};
 
 mod capi {
@@ -46,7 +41,6 @@ mod capi {
             count: *mut usize,
         ) -> u8;
 
-        #[cfg(feature = "graph")]
         pub fn cutlist_relevant(
             nodes: u8,
             source: u8,
@@ -58,7 +52,6 @@ mod capi {
             edge_set: *mut u64,
         ) -> u8;
 
-        #[cfg(feature = "graph")]
         pub fn cutlist_classify(
             nodes: u8,
             source: u8,
@@ -70,7 +63,6 @@ mod capi {
             verdict: *mut u8,
         ) -> u8;
 
-        #[cfg(feature = "list")]
         pub fn cutlist_list(
             nodes: u8,
             source: u8,
@@ -85,7 +77,6 @@ mod capi {
             count: *mut usize,
         ) -> u8;
 
-        #[cfg(feature = "list")]
         pub fn cutlist_widths(cuts: *const u64, length: usize, table: *mut [u64; 65]);
     }
 }
@@ -122,6 +113,7 @@ pub fn decode(plan: &[u8]) -> (u8, Record) {
 
 /// Reads a plan in memory where the bytes of `beyond` come right behind it.
 pub fn decode_before(plan: &[u8], beyond: &[u8]) -> (u8, Record) {
+    let mut lent_bytes = Rows::before(plan, beyond);
     let mut nodes = Guarded::new(STALE);
     let mut source = Guarded::new(STALE);
     let mut sink = Guarded::new(STALE);
@@ -129,22 +121,25 @@ pub fn decode_before(plan: &[u8], beyond: &[u8]) -> (u8, Record) {
     let mut first = Guarded::new([STALE; SLOTS]);
     let mut second = Guarded::new([STALE; SLOTS]);
 
-    let refusal = lent::read_bytes(plan, beyond, |plan, length| {
-        // SAFETY: each pointer is valid for its type and length, and no two overlap.
-        unsafe {
-            capi::cutlist_decode(
-                plan,
-                length,
-                nodes.place(),
-                source.place(),
-                sink.place(),
-                present.place(),
-                first.place(),
-                second.place(),
-            )
-        }
-    });
+    // SAFETY: each pointer is valid for its type and length, and no two overlap.
+    let refusal = unsafe {
+        capi::cutlist_decode(
+            lent_bytes.place(),
+            plan.len(),
+            nodes.place(),
+            source.place(),
+            sink.place(),
+            present.place(),
+            first.place(),
+            second.place(),
+        )
+    };
 
+    let (plan_after, beyond_after) = lent_bytes.take().split_at(plan.len());
+    assert!(
+        plan_after == plan && beyond_after == beyond,
+        "the reader wrote into the plan or behind it"
+    );
     let record = Record {
         nodes: nodes.take(),
         source: source.take(),
@@ -179,31 +174,30 @@ pub fn fault(record: &Record) -> u8 {
 /// Writes a plan into `plan`: the refusal number and the count.
 pub fn encode(record: &Record, plan: &mut [u8]) -> (u8, usize) {
     let mut ends = Ends::of(record);
+    let mut lent_bytes = Rows::new(plan);
     let mut count = Guarded::new(usize::from_ne_bytes([STALE; size_of::<usize>()]));
 
-    let refusal = lent::write_bytes(plan, |plan, length| {
-        // SAFETY: each pointer is valid for its type and length, and no two overlap.
-        unsafe {
-            capi::cutlist_encode(
-                record.nodes,
-                record.source,
-                record.sink,
-                record.present,
-                ends.first.place(),
-                ends.second.place(),
-                plan,
-                length,
-                count.place(),
-            )
-        }
-    });
+    // SAFETY: each pointer is valid for its type and length, and no two overlap.
+    let refusal = unsafe {
+        capi::cutlist_encode(
+            record.nodes,
+            record.source,
+            record.sink,
+            record.present,
+            ends.first.place(),
+            ends.second.place(),
+            lent_bytes.place(),
+            plan.len(),
+            count.place(),
+        )
+    };
 
     ends.assert_unchanged(record);
+    plan.copy_from_slice(lent_bytes.take());
     (refusal, count.take())
 }
 
 /// The useful part: the refusal number and both sets.
-#[cfg(feature = "graph")]
 pub fn relevant(record: &Record) -> (u8, Part) {
     let mut ends = Ends::of(record);
     let mut nodes = Guarded::new(u32::from_ne_bytes([STALE; 4]));
@@ -232,7 +226,6 @@ pub fn relevant(record: &Record) -> (u8, Part) {
 }
 
 /// Judges a set of cables: the refusal number and the verdict's number, 0 for none.
-#[cfg(feature = "graph")]
 pub fn classify(record: &Record, set: u64) -> (u8, u8) {
     let mut ends = Ends::of(record);
     let mut verdict = Guarded::new(STALE);
@@ -256,7 +249,6 @@ pub fn classify(record: &Record, set: u64) -> (u8, u8) {
 }
 
 /// Lists the minimal cuts into lent rows: the refusal number and the count.
-#[cfg(feature = "list")]
 pub fn list(record: &Record, cuts: &mut [u64], sides: &mut [u32]) -> (u8, usize) {
     let mut ends = Ends::of(record);
     let mut lent_cuts = Rows::new(cuts);
@@ -287,7 +279,6 @@ pub fn list(record: &Record, cuts: &mut [u64], sides: &mut [u32]) -> (u8, usize)
 }
 
 /// The same straight on the rows, with nothing around the call: for measuring.
-#[cfg(feature = "list")]
 pub fn list_bare(record: &Record, cuts: &mut [u64], sides: &mut [u32]) -> (u8, usize) {
     let mut count = 0;
 
@@ -312,7 +303,6 @@ pub fn list_bare(record: &Record, cuts: &mut [u64], sides: &mut [u32]) -> (u8, u
 }
 
 /// The width table of a list.
-#[cfg(feature = "list")]
 pub fn widths(cuts: &[u64]) -> Widths {
     let mut lent_cuts = Rows::new(cuts);
     let mut table = Guarded::new([u64::from_ne_bytes([STALE; 8]); 65]);

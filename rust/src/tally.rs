@@ -1,7 +1,11 @@
-//! How often each refusal number occurred, so that no test can pass on cases it never met.
+//! How often each refusal number and each verdict occurred, so that no test can pass on cases it
+//! never met.
 
 use std::ops::AddAssign;
 
+use crate::answers::Verdict;
+
+/// How often each refusal number occurred.
 #[derive(Clone, Debug, Default)]
 pub struct Tally([u64; 16]);
 
@@ -41,5 +45,24 @@ impl Tally {
         for number in (0..16).filter(|number| !numbers.contains(number)) {
             assert!(self.of(number) == 0, "number {number} occurred: {self:?}");
         }
+    }
+}
+
+/// How often each verdict was given.
+#[derive(Clone, Debug, Default)]
+pub struct Verdicts([u64; 4]);
+
+impl Verdicts {
+    pub fn count(&mut self, verdict: Verdict) {
+        self.0[verdict as usize] += 1;
+    }
+
+    pub fn of(&self, verdict: Verdict) -> u64 {
+        self.0[verdict as usize]
+    }
+
+    /// Each verdict was given at least `least` times.
+    pub fn assert_each(&self, least: u64) {
+        assert!(self.0[1..].iter().all(|&count| count >= least), "{self:?}");
     }
 }

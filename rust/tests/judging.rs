@@ -5,7 +5,7 @@ use cutlist_tests::halls;
 use cutlist_tests::plans;
 use cutlist_tests::record::Record;
 use cutlist_tests::rng::Rng;
-use cutlist_tests::tally::Tally;
+use cutlist_tests::tally::{Tally, Verdicts};
 use cutlist_tests::{brute, compare, sides, sys};
 
 fn assert_verdict(record: &Record, set: u64, verdict: Verdict) {
@@ -99,20 +99,6 @@ fn without_a_route_only_the_empty_set_is_minimal() {
     assert!(found > 2_000, "{found}");
 }
 
-/// How often each verdict was given.
-#[derive(Debug, Default)]
-struct Verdicts([u64; 4]);
-
-impl Verdicts {
-    fn count(&mut self, verdict: Verdict) {
-        self.0[verdict as usize] += 1;
-    }
-
-    fn assert_each(&self, least: u64) {
-        assert!(self.0[1..].iter().all(|&count| count >= least), "{self:?}");
-    }
-}
-
 /// Every set of present cables, and sets with a cable that is not present.
 #[test]
 fn every_set_of_small_plans() {
@@ -176,6 +162,7 @@ fn random_sets_on_plans_of_up_to_7_points() {
                 rng.draw() & record.present,
             ] {
                 let verdict = brute::verdict(&minpaths, set);
+                assert_eq!(sides::verdict(&record, set), verdict, "{record:?}");
                 assert_eq!(compare::classify(&record, set, verdict), 0);
                 verdicts.count(verdict);
             }
@@ -206,6 +193,7 @@ fn larger_plans() {
                 } else {
                     NotACut
                 };
+                assert_eq!(sides::verdict(&record, set), verdict, "{record:?}");
                 assert_eq!(compare::classify(&record, set, verdict), 0);
                 verdicts.count(verdict);
             }

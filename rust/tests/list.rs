@@ -4,24 +4,17 @@ use std::time::{Duration, Instant};
 
 use cutlist_tests::answers::Row;
 use cutlist_tests::halls;
+use cutlist_tests::lent;
 use cutlist_tests::plans;
 use cutlist_tests::record::Record;
 use cutlist_tests::rng::Rng;
 use cutlist_tests::tally::Tally;
 use cutlist_tests::{brute, compare, ordinary, sides, sys};
 
-/// Rows that hold anything.
-fn held(rng: &mut Rng, cuts: usize, sides: usize) -> (Vec<u64>, Vec<u32>) {
-    (
-        (0..cuts).map(|_| rng.draw()).collect(),
-        (0..sides).map(|_| rng.draw() as u32).collect(),
-    )
-}
-
 /// Lists with so many cut rows and side rows lent.
 fn list_with(rng: &mut Rng, record: &Record, rows: &[Row], cuts: usize, sides: usize) -> u8 {
-    let (cuts, sides) = held(rng, cuts, sides);
-    compare::list(record, rows, &cuts, &sides)
+    let (cuts, sides) = lent::stale_rows(rng, cuts, sides);
+    compare::list(record, Some(rows), &cuts, &sides)
 }
 
 /// One row less than needed, the exact number, one more, many, and the number of sets of useful
@@ -534,7 +527,7 @@ fn the_ordinary_lister_agrees() {
         }
         let lent = rng.below(60);
         let side_rows = lent + rng.below(8) / 7;
-        let (before_cuts, before_sides) = held(&mut rng, lent, side_rows);
+        let (before_cuts, before_sides) = lent::stale_rows(&mut rng, lent, side_rows);
         let (mut cuts, mut sides) = (before_cuts.clone(), before_sides.clone());
         let answer = sys::list(&record, &mut cuts, &mut sides);
         let (mut other_cuts, mut other_sides) = (before_cuts, before_sides);

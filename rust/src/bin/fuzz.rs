@@ -1,0 +1,182 @@
+//! Looks for bytes on which the library and the reference differ.
+//!
+//! cargo run --release --offline --manifest-path rust/Cargo.toml --bin fuzz -- [options]
+//!
+//!   --seconds S    until S seconds are over (60 if nothing else is said)
+//!   --cases N      so many cases
+//!   --seed N       the seed; otherwise one by the clock, and printed
+//!   --case I       case I of the seed alone
+//!   --each         names each case before it is tried, so that a crash shows its case
+//!   --replay FILE  the bytes of a file alone
+//!   --smoke        a fixed seed and number of cases, which must meet every kind of answer
+
+use std::env;
+use std::fs;
+use std::path::{Path, PathBuf};
+use std::process::ExitCode;
+use std::time::{Duration, Instant, SystemTime, UNIX_EPOCH};
+
+use cutlist_tests::fuzz::case::Case;
+use cutlist_tests::fuzz::counts::Counts;
+use cutlist_tests::fuzz::search::{panic_of, search, Difference};
+use cutlist_tests::fuzz::shrinking::shrink;
+use cutlist_tests::fuzz::{making, questions};
+
+const COMMAND: &str = "cargo run --release --offline --manifest-path rust/Cargo.toml --bin fuzz --";
+
+/// The smoke run.
+const SMOKE_SEED: u64 = 1;
+const SMOKE_CASES: u64 = 60_000;
+
+/// Byte strings tried while one is made smaller.
+const TRIES: usize = 10_000;
+
+#[derive(Default)]
+struct Options {
+    seconds: Option<u64>,
+    cases: Option<u64>,
+    seed: Option<u64>,
+    case: Option<u64>,
+    each: bool,
+    replay: Option<PathBuf>,
+    smoke: bool,
+}
+
+impl Options {
+    fn of(mut arguments: impl Iterator<Item = String>) -> Result<Options, String> {
+        let mut options = Options::default();
+        while let Some(name) = arguments.next() {
+            let mut value = || arguments.next().ok_or(format!("{name} lacks its value"));
+            let number = |value: String| value.parse().map_err(|e| format!("{value}: {e}"));
+            match name.as_str() {
+                "--seconds" => options.seconds = Some(number(value()?)?),
+                "--cases" => options.cases = Some(number(value()?)?),
+                "--seed" => options.seed = Some(number(value()?)?),
+                "--case" => options.case = Some(number(value()?)?),
+                "--each" => options.each = true,
+                "--replay" => options.replay = Some(value()?.into()),
+                "--smoke" => options.smoke = true,
+                _ => return Err(format!("{name} is no option")),
+            }
+        }
+        Ok(options)
+    }
+}
+
+fn main() -> ExitCode {
+    let options = match Options::of(env::args().skip(1)) {
+        Ok(options) => options,
+        Err(complaint) => {
+            eprintln!("{complaint}");
+            return ExitCode::from(2);
+        }
+    };
+    match &options.replay {
+        Some(file) => replay(file),
+        None => run(&options),
+    }
+}
+
+fn run(options: &Options) -> ExitCode {
+    let seed = match options.smoke {
+        true => SMOKE_SEED,
+        false => options.seed.unwrap_or_else(seed_by_the_clock),
+    };
+    println!(
+        "seed {seed}; if a signal ends this, the same with --seed {seed} --each tells its case"
+    );
+
+    let (first, count) = match (options.case, options.cases) {
+        (Some(case), _) => (case, 1),
+        _ if options.smoke => (0, SMOKE_CASES),
+        (None, cases) => (0, cases.unwrap_or(u64::MAX)),
+    };
+    let seconds = match (options.seconds, count) {
+        (None, u64::MAX) => 60,
+        (seconds, _) => seconds.unwrap_or(u64::MAX),
+    };
+    let start = Instant::now();
+    let time = Duration::from_secs(seconds);
+    let cases = (first..)
+        .zip(0..count)
+        .take_while(|_| start.elapsed() < time)
+        .map(|(number, _)| {
+            if options.each {
+                eprintln!("{number}");
+            }
+            (number, making::bytes(seed, number))
+        });
+
+    match search(cases, questions::ask) {
+        Ok(counts) => {
+            println!("no difference in {counts}");
+            match options.smoke.then(|| panic_of(|| counts.assert_wide())) {
+                Some(Some(missing)) => {
+                    println!("too narrow: {missing}");
+                    ExitCode::FAILURE
+                }
+                _ => ExitCode::SUCCESS,
+            }
+        }
+        Err(difference) => {
+            report(seed, &difference);
+            ExitCode::FAILURE
+        }
+    }
+}
+
+/// Shrinks the bytes, keeps them, and says how to try them again.
+fn report(seed: u64, found: &Difference) {
+    println!("case {}: {}", found.number, found.message);
+    let bytes = shrink(&found.bytes, TRIES, |bytes| ask_alone(bytes).is_some());
+    println!("{} of {} bytes suffice", bytes.len(), found.bytes.len());
+    tell(&bytes);
+
+    let folder = Path::new(env!("CARGO_MANIFEST_DIR")).join("target/fuzz");
+    let file = folder.join(format!("seed-{seed}-case-{}", found.number));
+    match fs::create_dir_all(&folder).and_then(|()| fs::write(&file, &bytes)) {
+        Ok(()) => println!("{COMMAND} --replay {}", file.display()),
+        Err(e) => println!("{}: {e}", file.display()),
+    }
+    println!("{COMMAND} --seed {seed} --case {}", found.number);
+}
+
+fn replay(file: &Path) -> ExitCode {
+    match fs::read(file) {
+        Ok(bytes) => match tell(&bytes) {
+            false => ExitCode::SUCCESS,
+            true => ExitCode::FAILURE,
+        },
+        Err(e) => {
+            eprintln!("{}: {e}", file.display());
+            ExitCode::from(2)
+        }
+    }
+}
+
+/// Says what is asked and what differs; whether anything does.
+fn tell(bytes: &[u8]) -> bool {
+    let case = Case::of(bytes);
+    println!("bytes {bytes:02X?}");
+    println!("plan {:02X?}, behind it {:02X?}", case.plan, case.beyond);
+    println!("record {:?}", case.record);
+    println!(
+        "buffer {:?}, rows {:?} with {} more for sides, set {:#x}",
+        case.buffer, case.rows, case.more_sides, case.set
+    );
+    let difference = ask_alone(bytes);
+    match &difference {
+        Some(message) => println!("differs: {message}"),
+        None => println!("no difference"),
+    }
+    difference.is_some()
+}
+
+fn ask_alone(bytes: &[u8]) -> Option<String> {
+    panic_of(|| questions::ask(bytes, &mut Counts::default()))
+}
+
+fn seed_by_the_clock() -> u64 {
+    let now = SystemTime::now().duration_since(UNIX_EPOCH);
+    now.map_or(0, |time| time.as_nanos() as u64 % 1_000_000_000)
+}

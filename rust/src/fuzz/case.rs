@@ -1,0 +1,202 @@
+//! A byte string taken apart: a head of settings, in which missing bytes count as 0, and a body, the
+//! bytes for the reader and for the record. Every byte string is a case, and every value of each byte
+//! means something.
+
+use std::array;
+
+use crate::record::{Record, SLOTS};
+
+/// Bytes in the head.
+pub const HEAD: usize = 22;
+
+/// Values of the head's second byte: the record is that of the body's plan, its values made to fit
+/// if they are not; or the body is the bytes of the record itself.
+pub const FITTED: u8 = 0;
+pub const RAW: u8 = 3;
+
+/// Bytes in a record: point count, server, room, the set of cables present, the ends of each cable.
+pub const FIELDS: usize = 3 + 8 + 2 * SLOTS;
+
+/// What is asked.
+#[derive(Clone, Debug)]
+pub struct Case<'a> {
+    /// All of the body.
+    pub body: &'a [u8],
+    /// The plan for the reader: the body up to a few bytes.
+    pub plan: &'a [u8],
+    /// Those bytes, right behind the plan in memory.
+    pub beyond: &'a [u8],
+    /// The record for the other calls.
+    pub record: Record,
+    /// The buffer lent to the writer, measured from the plan's length and the longest plan's.
+    pub buffer: Size,
+    /// The cut rows lent to the list call, measured from the number of cuts and the number of sets
+    /// of useful points between server and room.
+    pub rows: Size,
+    /// So many more side rows than cut rows, or fewer.
+    pub more_sides: isize,
+    /// The set to judge; what lent memory holds is drawn from it too.
+    pub set: u64,
+}
+
+/// A size: measured from what is needed, from the least that always suffices, or from nothing.
+#[derive(Clone, Copy, Debug, PartialEq, Eq)]
+pub enum Size {
+    Needed(isize),
+    Ample(isize),
+    Any(usize),
+}
+
+impl Size {
+    fn of([kind, value]: [u8; 2]) -> Size {
+        let value = usize::from(value);
+        match kind % 8 {
+            0 => Size::Needed(0),
+            1 => Size::Needed(-1),
+            2 => Size::Needed(1),
+            3 => Size::Needed(value as isize - 32),
+            4 => Size::Ample(value as isize % 3 - 1),
+            5 => Size::Any(0),
+            6 => Size::Any(value),
+            _ => Size::Any(33 * value),
+        }
+    }
+
+    /// The size, not below 0.
+    pub fn measured(self, needed: usize, ample: usize) -> usize {
+        match self {
+            Size::Needed(more) => needed.saturating_add_signed(more),
+            Size::Ample(more) => ample.saturating_add_signed(more),
+            Size::Any(size) => size,
+        }
+    }
+}
+
+impl Case<'_> {
+    /// The case that these bytes are.
+    pub fn of(bytes: &[u8]) -> Case<'_> {
+        let mut supply = Supply { rest: bytes };
+        let behind = supply.byte();
+        let origin = supply.byte();
+        let patched = supply.byte();
+        let patches: [[u8; 2]; 3] = array::from_fn(|_| supply.bytes());
+        let buffer = Size::of(supply.bytes());
+        let rows = Size::of(supply.bytes());
+        let sides = supply.byte();
+        let set = u64::from_le_bytes(supply.bytes());
+        let body = supply.rest;
+
+        // In half of all cases the body ends with the plan.
+        let behind = usize::from(behind.saturating_sub(128) % 16).min(body.len());
+        let (plan, beyond) = body.split_at(body.len() - behind);
+
+        let mut fields = match origin % 4 {
+            FITTED..RAW => fields(&fitted(body)),
+            _ => padded(body),
+        };
+        // In three of eight cases, one to three bytes of the record are replaced.
+        let patched = usize::from(patched % 8).saturating_sub(4);
+        for &[place, value] in &patches[..patched] {
+            fields[usize::from(place) % FIELDS] = value;
+        }
+
+        Case {
+            body,
+            plan,
+            beyond,
+            record: record(&fields),
+            buffer,
+            rows,
+            // In three of four cases, as many side rows as cut rows.
+            more_sides: match sides {
+                0..192 => 0,
+                _ => isize::from(sides) - 224,
+            },
+            set,
+        }
+    }
+}
+
+/// The bytes still to be taken.
+struct Supply<'a> {
+    rest: &'a [u8],
+}
+
+impl Supply<'_> {
+    fn byte(&mut self) -> u8 {
+        let [byte] = self.bytes();
+        byte
+    }
+
+    fn bytes<const N: usize>(&mut self) -> [u8; N] {
+        let (taken, rest) = self.rest.split_at(self.rest.len().min(N));
+        self.rest = rest;
+        padded(taken)
+    }
+}
+
+/// The body as words.
+pub fn words(body: &[u8]) -> Vec<u64> {
+    body.chunks(8)
+        .map(|chunk| u64::from_le_bytes(padded(chunk)))
+        .collect()
+}
+
+/// The bytes of a record, in the order of `FIELDS`.
+pub fn fields(record: &Record) -> [u8; FIELDS] {
+    let mut fields = [0; FIELDS];
+    fields[..3].copy_from_slice(&[record.nodes, record.source, record.sink]);
+    fields[3..11].copy_from_slice(&record.present.to_le_bytes());
+    for edge in 0..SLOTS {
+        fields[11 + 2 * edge] = record.first[edge];
+        fields[12 + 2 * edge] = record.second[edge];
+    }
+    fields
+}
+
+/// The record of these bytes, whatever they are.
+pub fn record(fields: &[u8; FIELDS]) -> Record {
+    let mut record = Record {
+        present: u64::from_le_bytes(padded(&fields[3..11])),
+        ..Record::bare(fields[0], fields[1], fields[2])
+    };
+    for edge in 0..SLOTS {
+        record.first[edge] = fields[11 + 2 * edge];
+        record.second[edge] = fields[12 + 2 * edge];
+    }
+    record
+}
+
+/// A record without fault, whatever the bytes: they are taken for the commands of a plan in their
+/// places, and values that are not fit are made so. A plan without fault gives its own record.
+pub fn fitted(body: &[u8]) -> Record {
+    let at = |place: usize| body.get(place).copied().unwrap_or(0);
+    let nodes = match at(1) {
+        nodes @ 2..=32 => nodes,
+        other => 2 + other % 31,
+    };
+    let (source, sink) = apart(nodes, at(3), at(4));
+    let mut fitted = Record::bare(nodes, source, sink);
+    for command in body.get(5..).unwrap_or_default().chunks_exact(4) {
+        let (first, second) = apart(nodes, command[2], command[3]);
+        fitted = fitted.with(usize::from(command[1]) % SLOTS, first, second);
+    }
+    fitted
+}
+
+/// Two different points.
+fn apart(nodes: u8, one: u8, other: u8) -> (u8, u8) {
+    let (one, other) = (one % nodes, other % nodes);
+    match one == other {
+        true => (one, (other + 1) % nodes),
+        false => (one, other),
+    }
+}
+
+/// The first bytes, and 0 where there are none.
+fn padded<const N: usize>(bytes: &[u8]) -> [u8; N] {
+    let mut padded = [0; N];
+    let length = bytes.len().min(N);
+    padded[..length].copy_from_slice(&bytes[..length]);
+    padded
+}

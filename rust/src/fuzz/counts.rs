@@ -1,0 +1,93 @@
+//! What was asked and answered.
+
+use std::fmt;
+
+use crate::answers::Verdict::{Minimal, NotACut, NotMinimal};
+use crate::tally::{Tally, Verdicts};
+
+/// Questions by function and answer.
+#[derive(Clone, Debug, Default)]
+pub struct Counts {
+    pub cases: u64,
+    pub decode: Tally,
+    pub fault: Tally,
+    pub encode: Tally,
+    pub relevant: Tally,
+    pub classify: Tally,
+    pub list: Tally,
+    pub widths: u64,
+    pub verdicts: Verdicts,
+    /// Halls with a complete list, by length: one row, or more.
+    pub short_lists: u64,
+    pub longer_lists: u64,
+    pub most_rows: usize,
+}
+
+impl Counts {
+    /// Notes a hall with a complete list.
+    pub fn listed(&mut self, rows: usize) {
+        match rows {
+            1 => self.short_lists += 1,
+            _ => self.longer_lists += 1,
+        }
+        self.most_rows = self.most_rows.max(rows);
+    }
+
+    /// Every refusal of every function occurred, every verdict, and short and long lists.
+    pub fn assert_wide(&self) {
+        let faults = [0, 4, 5, 6, 9, 10, 13];
+        for (tally, more) in [
+            (&self.fault, &[][..]),
+            (&self.relevant, &[]),
+            (&self.encode, &[15]),
+            (&self.classify, &[14]),
+            (&self.list, &[11, 12]),
+        ] {
+            let numbers = [&faults, more].concat();
+            tally.assert_only(&numbers);
+            tally.assert_each(numbers, 50);
+        }
+        let reading: Vec<u8> = (0..=10).collect();
+        self.decode.assert_only(&reading);
+        self.decode.assert_each(reading, 50);
+        self.verdicts.assert_each(500);
+        assert!(self.widths >= self.cases, "{self}");
+        assert!(self.short_lists >= 500, "{self}");
+        assert!(self.longer_lists >= 5_000, "{self}");
+        assert!(self.most_rows >= 2_000, "{self}");
+    }
+}
+
+/// One line.
+impl fmt::Display for Counts {
+    fn fmt(&self, f: &mut fmt::Formatter<'_>) -> fmt::Result {
+        write!(f, "{} cases; questions:", self.cases)?;
+        let mut all = Tally::default();
+        for (name, tally) in [
+            ("decode", &self.decode),
+            ("fault", &self.fault),
+            ("encode", &self.encode),
+            ("relevant", &self.relevant),
+            ("classify", &self.classify),
+            ("list", &self.list),
+        ] {
+            write!(f, " {name} {},", tally.total())?;
+            all += tally.clone();
+        }
+        write!(f, " widths {}; refusals:", self.widths)?;
+        for number in 1..=15 {
+            write!(f, " {number} ({}),", all.of(number))?;
+        }
+        let [not, more, minimal] =
+            [NotACut, NotMinimal, Minimal].map(|verdict| self.verdicts.of(verdict));
+        write!(
+            f,
+            " none ({}); judged: {not} no cut, {more} not minimal, {minimal} minimal; halls listed: \
+             {} with one row, {} with up to {}",
+            all.of(0),
+            self.short_lists,
+            self.longer_lists,
+            self.most_rows
+        )
+    }
+}

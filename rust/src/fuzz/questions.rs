@@ -1,0 +1,168 @@
+//! The questions of a case, put to the library and to the reference. A difference is a panic.
+
+use crate::answers::{Part, Row, Verdict};
+use crate::fuzz::case::{self, Case, Size};
+use crate::fuzz::counts::Counts;
+use crate::lent;
+use crate::record::Record;
+use crate::reference::LONGEST_PLAN;
+use crate::rng::Rng;
+use crate::{brute, compare, sides};
+
+/// The longest list that the reference makes, so that it answers soon whatever the hall. A hall
+/// with more cuts than that gets no more rows than that, and the answer can only be 12.
+const LONGEST_LIST: usize = 2_048;
+
+/// Asks every function.
+pub fn ask(bytes: &[u8], counts: &mut Counts) {
+    let case = Case::of(bytes);
+    counts.cases += 1;
+    reading(&case, counts);
+    on_the_record(&case, counts);
+    widths(&case::words(case.body), counts);
+}
+
+fn reading(case: &Case, counts: &mut Counts) {
+    let number = compare::decode_before(case.plan, case.beyond);
+    counts.decode.count(number);
+    if number == 0 {
+        counts.decode.count(compare::round_trip(case.plan));
+    }
+}
+
+fn on_the_record(case: &Case, counts: &mut Counts) {
+    let record = &case.record;
+    let mut rng = Rng::new(case.set);
+    let fault = compare::fault(record);
+    counts.fault.count(fault);
+    let known = match fault {
+        0 => Known::of(record, case.rows),
+        _ => Known::nothing(),
+    };
+
+    let needed = 6 + 4 * record.present.count_ones() as usize;
+    let buffer = rng.bytes(case.buffer.measured(needed, LONGEST_PLAN));
+    counts.encode.count(compare::encode(record, &buffer));
+
+    counts.relevant.count(compare::relevant(record, known.part));
+
+    for set in sets(case, &known) {
+        // A cable not present is refused before the verdict.
+        let verdict = match fault == 0 && set & !record.present == 0 {
+            true => known.verdict(record, set),
+            false => Verdict::NotACut,
+        };
+        let number = compare::classify(record, set, verdict);
+        counts.classify.count(number);
+        if number == 0 {
+            counts.verdicts.count(verdict);
+        }
+    }
+
+    let rows = known.rows.as_deref();
+    for (cut_rows, side_rows) in lent_rows(case, &known) {
+        let (cuts, sides) = lent::stale_rows(&mut rng, cut_rows, side_rows);
+        counts
+            .list
+            .count(compare::list(record, rows, &cuts, &sides));
+    }
+    if let Some(rows @ [_, ..]) = rows {
+        counts.listed(rows.len());
+        let cuts: Vec<u64> = rows.iter().map(|row| row.cut).collect();
+        widths(&cuts, counts);
+    }
+}
+
+fn widths(cuts: &[u64], counts: &mut Counts) {
+    compare::widths(cuts);
+    counts.widths += 1;
+}
+
+/// The sets to judge: any, the present cables among them, and a minimal cut with one cable more,
+/// less or other.
+fn sets(case: &Case, known: &Known) -> Vec<u64> {
+    let (any, present) = (case.set, case.record.present);
+    let mut sets = vec![any, any & present];
+    if let Some(rows @ [_, ..]) = known.rows.as_deref() {
+        let cut = rows[(any % rows.len() as u64) as usize].cut;
+        let edge = 1 << (any >> 58);
+        sets.extend([cut, cut ^ edge & present, cut | edge, cut ^ edge]);
+    }
+    sets
+}
+
+/// The numbers of cut rows and side rows to lend: those of the case, and exactly the rows needed.
+fn lent_rows(case: &Case, known: &Known) -> Vec<(usize, usize)> {
+    let cuts = match &known.rows {
+        Some(rows) => case.rows.measured(rows.len(), known.ample),
+        None => case
+            .rows
+            .measured(LONGEST_LIST, known.ample)
+            .min(LONGEST_LIST),
+    };
+    let mut lent = vec![(cuts, cuts.saturating_add_signed(case.more_sides))];
+    if let Some(rows) = &known.rows {
+        lent.push((rows.len(), rows.len()));
+    }
+    lent
+}
+
+/// What the reference says of a record.
+struct Known {
+    part: Part,
+    /// The routes of a small hall.
+    minpaths: Option<Vec<u64>>,
+    /// The list, if it is not longer than the rows that may be lent.
+    rows: Option<Vec<Row>>,
+    /// So many rows suffice for any list with this useful part, unless they are too many to lend.
+    ample: usize,
+}
+
+impl Known {
+    /// Of a record without fault.
+    fn of(record: &Record, lent: Size) -> Known {
+        // Brute force takes a moment on few points and few cables, and forever on many.
+        if record.nodes <= 7 && record.present.count_ones() <= 12 {
+            let part = brute::relevant(record);
+            return Known {
+                part,
+                minpaths: Some(brute::minpaths(record)),
+                rows: Some(brute::list(record)),
+                ample: ample(part),
+            };
+        }
+        let part = sides::relevant(record);
+        let most = match lent {
+            Size::Any(rows) => rows.min(LONGEST_LIST),
+            _ => LONGEST_LIST,
+        };
+        Known {
+            part,
+            minpaths: None,
+            rows: sides::list_by_growth(record, most),
+            ample: ample(part),
+        }
+    }
+
+    /// Of a record with a fault, where nothing is to be known.
+    fn nothing() -> Known {
+        Known {
+            part: Part::default(),
+            minpaths: None,
+            rows: Some(vec![]),
+            ample: 0,
+        }
+    }
+
+    fn verdict(&self, record: &Record, set: u64) -> Verdict {
+        match &self.minpaths {
+            Some(minpaths) => brute::verdict(minpaths, set),
+            None => sides::verdict(record, set),
+        }
+    }
+}
+
+/// The number of sets of useful points between server and room, or 4,096 if that is less.
+fn ample(part: Part) -> usize {
+    1 << (part.nodes.count_ones() - 2).min(12)
+}

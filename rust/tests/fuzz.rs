@@ -1,0 +1,274 @@
+//! The fuzz run itself: every byte string is a case, what differs is found, and what is found is
+//! made small.
+
+use std::cell::Cell;
+use std::collections::BTreeMap;
+use std::fs;
+use std::path::Path;
+use std::process::Command;
+
+use cutlist_tests::fuzz::case::{self, Case, Size, FIELDS, FITTED, HEAD, RAW};
+use cutlist_tests::fuzz::counts::Counts;
+use cutlist_tests::fuzz::search::{panic_of, search};
+use cutlist_tests::fuzz::shrinking::shrink;
+use cutlist_tests::fuzz::{making, questions};
+use cutlist_tests::halls;
+use cutlist_tests::plans;
+use cutlist_tests::reference::DECIDING;
+use cutlist_tests::rng::Rng;
+use cutlist_tests::{brute, reference};
+
+fn cases(seed: u64, count: u64) -> impl Iterator<Item = (u64, Vec<u8>)> {
+    (0..count).map(move |number| (number, making::bytes(seed, number)))
+}
+
+/// Settings of 0 with the record from `origin`, and the body.
+fn with_head(origin: u8, body: &[u8]) -> Vec<u8> {
+    let mut bytes = vec![0; HEAD];
+    bytes[1] = origin;
+    bytes.extend(body);
+    bytes
+}
+
+/// A wrong claim about the reader, beside all true ones: that no plan has cable 7.
+fn ask_with_a_wrong_claim(bytes: &[u8], counts: &mut Counts) {
+    questions::ask(bytes, counts);
+    let read = reference::decode(Case::of(bytes).plan);
+    assert!(!read.is_ok_and(|record| record.holds(7)), "cable 7 is read");
+}
+
+#[test]
+fn a_wrong_answer_of_the_reader_is_found_and_shrunk() {
+    let found = search(cases(81, 1_000), ask_with_a_wrong_claim).expect_err("a plan with cable 7");
+    assert_eq!(found.message, "cable 7 is read");
+    assert_eq!(found.bytes, making::bytes(81, found.number));
+    // The cases before it are without fault.
+    assert!(search(cases(81, found.number), ask_with_a_wrong_claim).is_ok());
+
+    let wrong =
+        |bytes: &[u8]| panic_of(|| ask_with_a_wrong_claim(bytes, &mut Counts::default())).is_some();
+    let shrunk = shrink(&found.bytes, 10_000, wrong);
+    assert!(wrong(&shrunk));
+    // Nothing is left but two points and the cable.
+    let (head, plan) = shrunk.split_at(HEAD);
+    assert_eq!(head, [0; HEAD]);
+    let record = reference::decode(plan).expect("accepted");
+    assert_eq!((record.nodes, record.present), (2, 1 << 7));
+}
+
+/// A wrong claim about the list: that no hall has exactly 4 cuts.
+fn ask_with_a_wrong_list(bytes: &[u8], counts: &mut Counts) {
+    questions::ask(bytes, counts);
+    let record = Case::of(bytes).record;
+    let small = record.nodes <= 7 && record.present.count_ones() <= 12;
+    if small && reference::fault(&record).is_ok() {
+        let rows = brute::list(&record).len();
+        assert_ne!(rows, 4, "a list is wrong");
+    }
+}
+
+#[test]
+fn a_wrong_list_is_found_and_shrunk() {
+    let found = search(cases(82, 1_000), ask_with_a_wrong_list).expect_err("a hall with 4 cuts");
+    assert!(found.message.contains("a list is wrong"), "{found:?}");
+    let wrong =
+        |bytes: &[u8]| panic_of(|| ask_with_a_wrong_list(bytes, &mut Counts::default())).is_some();
+    let shrunk = shrink(&found.bytes, 10_000, wrong);
+    assert!(wrong(&shrunk));
+    // No hall with fewer cables has four cuts.
+    let record = Case::of(&shrunk).record;
+    assert_eq!(record.present.count_ones(), 4, "{record:?}");
+    // No byte can be spared.
+    for place in 0..shrunk.len() {
+        let mut without = shrunk.clone();
+        without.remove(place);
+        assert!(!wrong(&without), "byte {place} of {shrunk:02X?}");
+    }
+}
+
+#[test]
+fn shrinking_ends_after_so_many_tries() {
+    let tries = Cell::new(0);
+    let many = vec![9; 400];
+    let five_above_3 = |bytes: &[u8]| bytes.iter().filter(|&&byte| byte > 3).count() >= 5;
+    let shrunk = shrink(&many, 20, |bytes| {
+        tries.set(tries.get() + 1);
+        five_above_3(bytes)
+    });
+    assert_eq!(tries.get(), 20);
+    assert!(shrunk.len() < many.len() && five_above_3(&shrunk));
+    assert_eq!(shrink(&many, 100_000, five_above_3), [4; 5]);
+    assert_eq!(shrink(&many, 100_000, |_| true), []);
+    assert_eq!(shrink(&many, 100_000, |_| false), many);
+}
+
+#[test]
+fn panics_keep_their_messages() {
+    assert_eq!(panic_of(|| ()), None);
+    assert_eq!(panic_of(|| panic!("plain")), Some("plain".to_string()));
+    let number = 7;
+    let message = panic_of(|| assert!(number == 8, "not {number}"));
+    assert_eq!(message, Some("not 7".to_string()));
+}
+
+/// All of up to two bytes, and random ones of up to 3,000.
+#[test]
+fn every_byte_string_is_a_case() {
+    let mut rng = Rng::new(83);
+    let mut counts = Counts::default();
+    questions::ask(&[], &mut counts);
+    for first in 0..=255 {
+        questions::ask(&[first], &mut counts);
+        for second in 0..=255 {
+            questions::ask(&[first, second], &mut counts);
+        }
+    }
+    for round in 0..2_000 {
+        let length = rng.below(if round % 10 == 0 { 3_000 } else { 60 });
+        questions::ask(&rng.bytes(length), &mut counts);
+    }
+    assert_eq!(counts.cases, 1 + 256 + 65_536 + 2_000);
+    assert_eq!(counts.fault.total(), counts.cases);
+    assert_eq!(counts.relevant.total(), counts.cases);
+    assert_eq!(counts.encode.total(), counts.cases);
+    assert!(counts.decode.total() >= counts.cases);
+    assert!(counts.classify.total() >= counts.cases);
+    assert!(counts.list.total() >= counts.cases);
+    assert!(counts.widths >= counts.cases);
+}
+
+#[test]
+fn a_case_is_fixed_by_seed_and_number() {
+    for number in 0..200 {
+        let bytes = making::bytes(84, number);
+        assert_eq!(making::bytes(84, number), bytes);
+        assert_ne!(making::bytes(84, number + 1), bytes);
+        assert_ne!(making::bytes(85, number), bytes);
+    }
+}
+
+/// Among the cases that are made, no kind is missing.
+#[test]
+fn cases_of_every_kind_are_made() {
+    let mut kinds: BTreeMap<&str, u32> = BTreeMap::new();
+    for (_, bytes) in cases(87, 5_000) {
+        let case = Case::of(&bytes);
+        let record = &case.record;
+        let accepted = reference::decode(case.plan).is_ok();
+        let fit = reference::fault(record).is_ok();
+        for (kind, met) in [
+            ("no bytes", case.plan.is_empty()),
+            ("more bytes than decide", case.plan.len() > DECIDING),
+            ("an accepted plan", accepted),
+            (
+                "the rest of the plan right behind it",
+                !accepted && reference::decode(case.body).is_ok(),
+            ),
+            ("a faulty record", !fit),
+            ("few points", fit && record.nodes <= 7),
+            ("many points", fit && record.nodes > 20),
+            ("all cables", fit && record.present == u64::MAX),
+            ("a set of present cables", case.set & !record.present == 0),
+            ("exactly the rows needed", case.rows == Size::Needed(0)),
+            ("one row less", case.rows == Size::Needed(-1)),
+            ("one row more", case.rows == Size::Needed(1)),
+            ("no row", case.rows == Size::Any(0)),
+            ("ample rows", case.rows == Size::Ample(0)),
+            ("more side rows", case.more_sides > 0),
+            ("fewer side rows", case.more_sides < 0),
+            ("exactly the bytes needed", case.buffer == Size::Needed(0)),
+            ("one byte less", case.buffer == Size::Needed(-1)),
+        ] {
+            *kinds.entry(kind).or_default() += u32::from(met);
+        }
+    }
+    assert!(kinds.values().all(|&count| count > 50), "{kinds:?}");
+}
+
+#[test]
+fn settings_mean_what_they_say() {
+    let bridge = plans::bytes(&halls::bridge());
+    let bytes = with_head(FITTED, &bridge);
+    let case = Case::of(&bytes);
+    assert_eq!(case.record, halls::bridge());
+    assert_eq!((case.plan, case.beyond), (&bridge[..], &[][..]));
+    assert_eq!((case.rows, case.more_sides), (Size::Needed(0), 0));
+    assert_eq!((case.buffer, case.set), (Size::Needed(0), 0));
+    let fields = case::fields(&halls::bridge());
+    assert_eq!(Case::of(&with_head(RAW, &fields)).record, halls::bridge());
+
+    let mut bytes = with_head(FITTED, &bridge);
+    // The last 3 bytes lie behind the plan; the record is still that of all bytes.
+    bytes[0] = 131;
+    let case = Case::of(&bytes);
+    assert_eq!((case.plan, case.beyond), bridge.split_at(23));
+    assert_eq!(case.record, halls::bridge());
+    bytes[0] = 0;
+    // Field 1 becomes 3.
+    bytes[2..5].copy_from_slice(&[5, 1, 3]);
+    assert_eq!(Case::of(&bytes).record.source, 3);
+    bytes[2] = 4;
+    // 33 * 2 cut rows and 31 side rows more, and the set.
+    bytes[11..14].copy_from_slice(&[7, 2, 255]);
+    bytes[14..22].copy_from_slice(&[1, 2, 0, 0, 0, 0, 0, 128]);
+    let case = Case::of(&bytes);
+    assert_eq!(case.record, halls::bridge());
+    assert_eq!((case.rows, case.more_sides), (Size::Any(66), 31));
+    assert_eq!(case.set, 1 << 63 | 0x201);
+}
+
+/// Any bytes make a fit record, and a plan without fault makes its own; any bytes are a raw record.
+#[test]
+fn records_out_of_bytes() {
+    let mut rng = Rng::new(86);
+    for round in 0..20_000 {
+        let body = match round % 2 {
+            0 => {
+                let length = rng.below(400);
+                rng.bytes(length)
+            }
+            _ => plans::Damage::ALL[round / 2 % 12].plan(&mut rng),
+        };
+        let fitted = case::fitted(&body);
+        assert_eq!(reference::fault(&fitted), Ok(()), "{body:02X?}");
+        let record = plans::record(&mut rng);
+        assert_eq!(case::fitted(&plans::bytes(&record)), record);
+
+        let fields: [u8; FIELDS] = std::array::from_fn(|_| rng.byte());
+        assert_eq!(case::fields(&case::record(&fields)), fields);
+        assert_eq!(case::record(&case::fields(&record)), record);
+    }
+}
+
+/// The command: what it prints, and how it ends.
+#[test]
+fn the_command() {
+    let run = |arguments: &[&str]| {
+        let output = Command::new(env!("CARGO_BIN_EXE_fuzz"))
+            .args(arguments)
+            .output()
+            .expect("the program runs");
+        let text = String::from_utf8(output.stdout).expect("text");
+        (output.status.code(), text)
+    };
+    let (code, text) = run(&["--cases", "300", "--seed", "88"]);
+    assert_eq!(code, Some(0), "{text}");
+    assert!(text.starts_with("seed 88"), "{text}");
+    assert!(text.contains("no difference in 300 cases"), "{text}");
+    let again = run(&["--seed", "88", "--cases", "300"]);
+    assert_eq!(again, (code, text));
+
+    let (code, text) = run(&["--seed", "88", "--case", "7"]);
+    assert_eq!(code, Some(0), "{text}");
+    assert!(text.contains("no difference in 1 cases"), "{text}");
+
+    let file = Path::new(env!("CARGO_TARGET_TMPDIR")).join("fuzz-replay");
+    fs::write(&file, making::bytes(88, 7)).expect("a file");
+    let (code, text) = run(&["--replay", file.to_str().expect("text")]);
+    assert_eq!(code, Some(0), "{text}");
+    assert!(text.ends_with("no difference\n"), "{text}");
+
+    for wrong in [&["--replay", "/no/such/file"][..], &["--cases"], &["-x"]] {
+        assert_eq!(run(wrong), (Some(2), String::new()));
+    }
+}
