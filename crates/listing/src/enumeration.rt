@@ -263,7 +263,7 @@ fn blank(nodes: NodeSet, sink: u32) -> Branch
 }
 
 // Writes the rows of an accepted network, given its relevant nodes and edges, and gives their number, at most one past the limit.
-pub fn enumerate(
+pub(crate) fn enumerate(
     network: Network,
     nodes: NodeSet,
     edges: EdgeSet,

@@ -51,7 +51,7 @@ pub fn end_fault(nodes: u8, first: u8, second: u8) -> u8
     pair_fault(END_OUTSIDE, SAME_ENDS, nodes, first, second)
 }
 
-pub fn absent_fault(first: u8, second: u8) -> u8
+fn absent_fault(first: u8, second: u8) -> u8
     ensures { λ r. ⌜ r ≡ absentFault first second ⌝ }
 {
     if 0 < first {

@@ -1,12 +1,11 @@
-// What is reached in a network, its relevant part (the paper's useful part), and the judging of a set of edges.
+// The relevant part of a network (the paper's useful part), and the judging of a set of edges, by what is reached.
 //
-//   reach            the nodes that a set of nodes is connected to over a set of edges
 //   relevant         the relevant nodes and edges
 //   classify         what a set of edges is: not a cut, a cut but not minimal, or minimal
 //   refusal_number   the number of a verdict's refusal
 //   verdict_number   the number of a verdict
 //
-// Every function takes whatever it is given: none has a `requires`.
+// Every function that callers can name takes whatever it is given: none has a `requires`.
 use edge_set::EdgeSet;
 use node_set::NodeSet;
 
@@ -18,7 +17,6 @@ pub use judging::classify;
 pub use judging::refusal_number;
 pub use judging::verdict_number;
 pub use part::relevant;
-pub use spread::reach;
 
 // The relevant part: the refusal's number, 0 if there is none, beside the two sets, both empty on refusal.
 pub struct RelevantPart {

@@ -46,7 +46,7 @@ fn round(network: Network, edges: EdgeSet, reached: NodeSet) -> NodeSet
 }
 
 // The nodes that a node of `start` is connected to over the edges of the set, a set of present edges of an accepted network.
-pub fn reach(network: Network, edges: EdgeSet, start: NodeSet) -> NodeSet
+pub(crate) fn reach(network: Network, edges: EdgeSet, start: NodeSet) -> NodeSet
     ensures { λ r. ⌜ (faultOf network ≡ 0 → edges .0 ⊆ network .present .0 → r .0 ≡ reachOf (only network (edges .0)) (start .0)) ⌝ }
 {
     let mut spread = start;
