@@ -24,12 +24,12 @@ encode-refused N l (suc r) e d =
     (ap (λ x. encodeAnswer x (length (encodeOf N))) e, ap (λ x. unlessRefused x (encodeOf N ++ drop (length (encodeOf N)) l) l) e)
 
 -- Without one the plan stands in it.
-pub encode-written : (N : Network) (l : List ℕ) → encodeRefusal N l ≡ 0
-    → Answered N l (record { refusal = 0; count = length (encodeOf N) }) (encodeOf N ++ drop (length (encodeOf N)) l)
+pub encode-written : (N : Network) (l : List ℕ) (n : ℕ) (after : List ℕ) → encodeRefusal N l ≡ 0 → n ≡ length (encodeOf N)
+    → after ≡ encodeOf N ++ drop (length (encodeOf N)) l → Answered N l (record { refusal = 0; count = n }) after
 unfolding encodedBy bytesAfter
-encode-written N l e = (
-  ap (λ x. encodeAnswer x (length (encodeOf N))) (sym e),
-  ap (λ x. unlessRefused x (encodeOf N ++ drop (length (encodeOf N)) l) l) (sym e),
+encode-written N l n after e count bytes = (
+  ap (encodeAnswer 0) count ∙ ap (λ x. encodeAnswer x (length (encodeOf N))) (sym e),
+  bytes ∙ ap (λ x. unlessRefused x (encodeOf N ++ drop (length (encodeOf N)) l) l) (sym e),
 )
 
 -- What stands past the written bytes is what stood there.

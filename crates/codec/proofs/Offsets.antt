@@ -12,10 +12,8 @@ use lib.Seq.{getD-drop}
 use borrow.Author.Tests.{lt-ltb, le-ltb, eq-eqb, ne-eqb}
 use Rattle.network.specs.Record.{_then_, sizeFault, terminalFault, endFault}
 use Rattle.network.proofs.Refusals.{none-then, some-then, some-when, none-when}
-use Rattle.codec.specs.declared.SizeStep.{SizeStep}
-use Rattle.codec.specs.declared.TerminalsStep.{TerminalsStep}
-use Rattle.codec.specs.declared.EdgeStep.{EdgeStep}
-use Rattle.codec.specs.Format.{at, missing, unfit, numberFault, sizeRefusal, terminalsRefusal, edgeRefusal, endRefusal, sizeAnswer, terminalsAnswer, edgeAnswer, sizeStep, terminalsStep, edgeStep}
+use Rattle.codec.specs.declared.Step.{Step}
+use Rattle.codec.specs.Format.{at, missing, unfit, numberFault, sizeRefusal, terminalsRefusal, edgeRefusal, endRefusal, answer, sizeStep, terminalsStep, edgeStep}
 use Rattle.codec.proofs.Steps.{command, command-values, none-missing, none-unfit}
 
 -- The byte at an offset is the first of what is left there.
@@ -49,61 +47,53 @@ module _ (c k : ℕ) (l : List ℕ) (o values : ℕ) where
   whole-command : o < length l → getD l o 0 ≡ c → 0 < k → k ≤ length l - o → command c k (drop o l) values ≡ values
   whole-command h f p m = command-values c k (drop o l) values (first-at l o ∙ f) p (simp length-drop m)
 
--- An answer that is no refusal's is its values'.
-pub size-refused : (r n : ℕ) → (r ≡ 0 → ⊥) → SizeStep.Refused r ≡ sizeAnswer r n
-size-refused zero n d = absurd (d refl)
-size-refused (suc r) n d = refl
-
-pub terminals-refused : (r a b : ℕ) → (r ≡ 0 → ⊥) → TerminalsStep.Refused r ≡ terminalsAnswer r a b
-terminals-refused zero a b d = absurd (d refl)
-terminals-refused (suc r) a b d = refl
-
-pub edge-refused : (r k a b : ℕ) → (r ≡ 0 → ⊥) → EdgeStep.Refused r ≡ edgeAnswer r k a b
-edge-refused zero k a b d = absurd (d refl)
-edge-refused (suc r) k a b d = refl
+-- A refusal is the answer, whatever the values would give.
+pub refused : (r : ℕ) (t : Step) → (r ≡ 0 → ⊥) → Step.Refused r ≡ answer r t
+refused zero t d = absurd (d refl)
+refused (suc r) t d = refl
 
 -- ---- the commands, each way
 
 module _ (l : List ℕ) (o : ℕ) where
-  pub size-nothing : length l ≤ o → SizeStep.Refused 1 ≡ sizeStep (drop o l)
+  pub size-nothing : length l ≤ o → Step.Refused 1 ≡ sizeStep (drop o l)
   unfolding sizeStep sizeRefusal
   size-nothing h = rw (nothing-left 0x50 2 l o (sizeFault (at (drop o l) 1)) h)
 
-  pub size-another : o < length l → (getD l o 0 ≡ 0x50 → ⊥) → SizeStep.Refused 2 ≡ sizeStep (drop o l)
+  pub size-another : o < length l → (getD l o 0 ≡ 0x50 → ⊥) → Step.Refused 2 ≡ sizeStep (drop o l)
   unfolding sizeStep sizeRefusal
   size-another h d = rw (another-command 0x50 2 l o (sizeFault (at (drop o l) 1)) h d)
 
-  pub size-missing : o < length l → getD l o 0 ≡ 0x50 → length l - o < 2 → SizeStep.Refused 1 ≡ sizeStep (drop o l)
+  pub size-missing : o < length l → getD l o 0 ≡ 0x50 → length l - o < 2 → Step.Refused 1 ≡ sizeStep (drop o l)
   unfolding sizeStep sizeRefusal
   size-missing h f m = rw (operands-missing 0x50 2 l o (sizeFault (at (drop o l) 1)) h f m)
 
   pub size-values : (r : ℕ) → o < length l → getD l o 0 ≡ 0x50 → 2 ≤ length l - o → r ≡ sizeFault (getD l (o + 1) 0)
-      → sizeAnswer r (getD l (o + 1) 0) ≡ sizeStep (drop o l)
+      → answer r (Step.Size (getD l (o + 1) 0)) ≡ sizeStep (drop o l)
   unfolding sizeStep sizeRefusal
   size-values r h f m e =
       rw (whole-command 0x50 2 l o (sizeFault (at (drop o l) 1)) h f (omega arith) m)
-      (rw (getD-drop o l 1 0) (ap (λ x. sizeAnswer x (getD l (o + 1) 0)) e))
+      (rw (getD-drop o l 1 0) (ap (λ x. answer x (Step.Size (getD l (o + 1) 0))) e))
 
   module _ (n : ℕ) where
-    pub terminals-nothing : length l ≤ o → TerminalsStep.Refused 1 ≡ terminalsStep n (drop o l)
+    pub terminals-nothing : length l ≤ o → Step.Refused 1 ≡ terminalsStep n (drop o l)
     unfolding terminalsStep terminalsRefusal
     terminals-nothing h = rw (nothing-left 0x53 3 l o (terminalFault n (at (drop o l) 1) (at (drop o l) 2)) h)
 
-    pub terminals-another : o < length l → (getD l o 0 ≡ 0x53 → ⊥) → TerminalsStep.Refused 2 ≡ terminalsStep n (drop o l)
+    pub terminals-another : o < length l → (getD l o 0 ≡ 0x53 → ⊥) → Step.Refused 2 ≡ terminalsStep n (drop o l)
     unfolding terminalsStep terminalsRefusal
     terminals-another h d = rw (another-command 0x53 3 l o (terminalFault n (at (drop o l) 1) (at (drop o l) 2)) h d)
 
-    pub terminals-missing : o < length l → getD l o 0 ≡ 0x53 → length l - o < 3 → TerminalsStep.Refused 1 ≡ terminalsStep n (drop o l)
+    pub terminals-missing : o < length l → getD l o 0 ≡ 0x53 → length l - o < 3 → Step.Refused 1 ≡ terminalsStep n (drop o l)
     unfolding terminalsStep terminalsRefusal
     terminals-missing h f m = rw (operands-missing 0x53 3 l o (terminalFault n (at (drop o l) 1) (at (drop o l) 2)) h f m)
 
     pub terminals-values : (r : ℕ) → o < length l → getD l o 0 ≡ 0x53 → 3 ≤ length l - o
         → r ≡ terminalFault n (getD l (o + 1) 0) (getD l (o + 2) 0)
-        → terminalsAnswer r (getD l (o + 1) 0) (getD l (o + 2) 0) ≡ terminalsStep n (drop o l)
+        → answer r (Step.Terminals (getD l (o + 1) 0) (getD l (o + 2) 0)) ≡ terminalsStep n (drop o l)
     unfolding terminalsStep terminalsRefusal
     terminals-values r h f m e =
         rw (whole-command 0x53 3 l o (terminalFault n (at (drop o l) 1) (at (drop o l) 2)) h f (omega arith) m)
-        (rw (getD-drop o l 1 0, getD-drop o l 2 0) (ap (λ x. terminalsAnswer x (getD l (o + 1) 0) (getD l (o + 2) 0)) e))
+        (rw (getD-drop o l 1 0, getD-drop o l 2 0) (ap (λ x. answer x (Step.Terminals (getD l (o + 1) 0) (getD l (o + 2) 0))) e))
 
     module _ (next : ℕ) where
       abbrev values : ℕ
@@ -113,7 +103,7 @@ module _ (l : List ℕ) (o : ℕ) where
       not-end : (getD l o 0 ≡ 0x45 → ⊥) → eqb (at (drop o l) 0) 0x45 ≡ false
       not-end d = ne-eqb (at (drop o l) 0) 0x45 (λ e. d (sym (first-at l o) ∙ e))
 
-      pub edge-nothing : length l ≤ o → EdgeStep.Refused 1 ≡ edgeStep n next (drop o l)
+      pub edge-nothing : length l ≤ o → Step.Refused 1 ≡ edgeStep n next (drop o l)
       unfolding edgeStep edgeRefusal
       edge-nothing h =
           let none : getD l o 0 ≡ 0 = List·getD-eq-default l 0 h in
@@ -122,15 +112,15 @@ module _ (l : List ℕ) (o : ℕ) where
       is-end : getD l o 0 ≡ 0x45 → eqb (at (drop o l) 0) 0x45 ≡ true
       is-end e = eq-eqb (at (drop o l) 0) 0x45 (first-at l o ∙ e)
 
-      pub end-trailing : getD l o 0 ≡ 0x45 → 1 < length l - o → EdgeStep.Refused 3 ≡ edgeStep n next (drop o l)
+      pub end-trailing : getD l o 0 ≡ 0x45 → 1 < length l - o → Step.Refused 3 ≡ edgeStep n next (drop o l)
       unfolding edgeStep endRefusal
       end-trailing e m = rw (is-end e, some-when 3 (lt-ltb 1 (length (drop o l)) (simp length-drop m)))
 
-      pub end-alone : getD l o 0 ≡ 0x45 → length l - o ≤ 1 → EdgeStep.End ≡ edgeStep n next (drop o l)
+      pub end-alone : getD l o 0 ≡ 0x45 → length l - o ≤ 1 → Step.End ≡ edgeStep n next (drop o l)
       unfolding edgeStep endRefusal
       end-alone e m = rw (is-end e, none-when 3 (le-ltb 1 (length (drop o l)) (simp length-drop m)))
 
-      pub edge-another : o < length l → (getD l o 0 ≡ 0x45 → ⊥) → (getD l o 0 ≡ 0x43 → ⊥) → EdgeStep.Refused 2 ≡ edgeStep n next (drop o l)
+      pub edge-another : o < length l → (getD l o 0 ≡ 0x45 → ⊥) → (getD l o 0 ≡ 0x43 → ⊥) → Step.Refused 2 ≡ edgeStep n next (drop o l)
       unfolding edgeStep edgeRefusal
       edge-another h d d′ = rw (not-end d, another-command 0x43 4 l o values h d′)
 
@@ -138,15 +128,15 @@ module _ (l : List ℕ) (o : ℕ) where
       edge-command : getD l o 0 ≡ 0x43 → getD l o 0 ≡ 0x45 → ⊥
       edge-command e e′ = omega arith
 
-      pub edge-missing : o < length l → getD l o 0 ≡ 0x43 → length l - o < 4 → EdgeStep.Refused 1 ≡ edgeStep n next (drop o l)
+      pub edge-missing : o < length l → getD l o 0 ≡ 0x43 → length l - o < 4 → Step.Refused 1 ≡ edgeStep n next (drop o l)
       unfolding edgeStep edgeRefusal
       edge-missing h f m = rw (not-end (edge-command f), operands-missing 0x43 4 l o values h f m)
 
       pub edge-values : (r : ℕ) → o < length l → getD l o 0 ≡ 0x43 → 4 ≤ length l - o
           → r ≡ (numberFault next (getD l (o + 1) 0) then endFault n (getD l (o + 2) 0) (getD l (o + 3) 0))
-          → edgeAnswer r (getD l (o + 1) 0) (getD l (o + 2) 0) (getD l (o + 3) 0) ≡ edgeStep n next (drop o l)
+          → answer r (Step.Edge (getD l (o + 1) 0) (getD l (o + 2) 0) (getD l (o + 3) 0)) ≡ edgeStep n next (drop o l)
       unfolding edgeStep edgeRefusal
       edge-values r h f m e =
           rw (not-end (edge-command f), whole-command 0x43 4 l o values h f (omega arith) m)
           (rw (getD-drop o l 1 0, getD-drop o l 2 0, getD-drop o l 3 0)
-          (ap (λ x. edgeAnswer x (getD l (o + 1) 0) (getD l (o + 2) 0) (getD l (o + 3) 0)) e))
+          (ap (λ x. answer x (Step.Edge (getD l (o + 1) 0) (getD l (o + 2) 0) (getD l (o + 3) 0))) e))

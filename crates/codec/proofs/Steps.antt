@@ -10,9 +10,7 @@ use lib.ListN.{length, drop}
 use borrow.Author.Tests.{le-ltb, eq-eqb, ltb-false, eqb-true, not-false}
 use Rattle.network.specs.Record.{_when_, _then_, sizeFault, pairFault, terminalFault, endFault}
 use Rattle.network.proofs.Refusals.{then-none, none-then, when-none, none-when, then-bounded, when-bounded}
-use Rattle.codec.specs.declared.SizeStep.{SizeStep}
-use Rattle.codec.specs.declared.TerminalsStep.{TerminalsStep}
-use Rattle.codec.specs.declared.EdgeStep.{EdgeStep}
+use Rattle.codec.specs.declared.Step.{Step}
 use Rattle.codec.specs.Format.{at, missing, unfit, numberFault, sizeRefusal, terminalsRefusal, edgeRefusal, endRefusal, sizeStep, terminalsStep, edgeStep}
 
 -- ---- the rules that every command shares
@@ -63,8 +61,8 @@ two (c ∷ []) h = absurd (omega arith)
 two (c ∷ n ∷ s) h = refl
 
 pub data SizeView (s : List ℕ) : Type 0 where
-  size : (n : ℕ) (rest : List ℕ) → sizeStep s ≡ SizeStep.Size n → s ≡ 0x50 ∷ n ∷ rest → sizeFault n ≡ 0 → SizeView s
-  refused : (r : ℕ) → sizeStep s ≡ SizeStep.Refused r → 0 < r → r ≤ 10 → SizeView s
+  size : (n : ℕ) (rest : List ℕ) → sizeStep s ≡ Step.Size n → s ≡ 0x50 ∷ n ∷ rest → sizeFault n ≡ 0 → SizeView s
+  refused : (r : ℕ) → sizeStep s ≡ Step.Refused r → 0 < r → r ≤ 10 → SizeView s
 
 pub size-view : (s : List ℕ) → SizeView s
 unfolding sizeStep sizeRefusal sizeFault
@@ -78,7 +76,7 @@ size-view s = go (sizeRefusal s) refl
         refused (suc r) (rw e) (omega arith)
         (rw e at (command-bounded 10 0x50 2 s (sizeFault (at s 1)) (omega arith) (when-bounded 10 4 _ (omega arith))))
 
-pub size-taken : (n : ℕ) (s : List ℕ) → sizeFault n ≡ 0 → sizeStep (0x50 ∷ n ∷ s) ≡ SizeStep.Size n
+pub size-taken : (n : ℕ) (s : List ℕ) → sizeFault n ≡ 0 → sizeStep (0x50 ∷ n ∷ s) ≡ Step.Size n
 unfolding sizeStep sizeRefusal
 size-taken n s e = rw (command-values 0x50 2 (0x50 ∷ n ∷ s) (sizeFault n) refl (omega arith) (omega arith) ∙ e)
 
@@ -91,9 +89,9 @@ three (c ∷ a ∷ []) h = absurd (omega arith)
 three (c ∷ a ∷ b ∷ s) h = refl
 
 pub data TerminalsView (n : ℕ) (s : List ℕ) : Type 0 where
-  terminals : (a b : ℕ) (rest : List ℕ) → terminalsStep n s ≡ TerminalsStep.Terminals a b → s ≡ 0x53 ∷ a ∷ b ∷ rest
+  terminals : (a b : ℕ) (rest : List ℕ) → terminalsStep n s ≡ Step.Terminals a b → s ≡ 0x53 ∷ a ∷ b ∷ rest
       → terminalFault n a b ≡ 0 → TerminalsView n s
-  refused : (r : ℕ) → terminalsStep n s ≡ TerminalsStep.Refused r → 0 < r → r ≤ 10 → TerminalsView n s
+  refused : (r : ℕ) → terminalsStep n s ≡ Step.Refused r → 0 < r → r ≤ 10 → TerminalsView n s
 
 pub terminals-view : (n : ℕ) (s : List ℕ) → TerminalsView n s
 unfolding terminalsStep terminalsRefusal pairFault
@@ -110,7 +108,7 @@ terminals-view n s = go (terminalsRefusal n s) refl
         (then-bounded 10 _ _ (when-bounded 10 5 _ (omega arith)) (when-bounded 10 6 _ (omega arith)))))
 
 pub terminals-taken : (n a b : ℕ) (s : List ℕ) → terminalFault n a b ≡ 0
-    → terminalsStep n (0x53 ∷ a ∷ b ∷ s) ≡ TerminalsStep.Terminals a b
+    → terminalsStep n (0x53 ∷ a ∷ b ∷ s) ≡ Step.Terminals a b
 unfolding terminalsStep terminalsRefusal
 terminals-taken n a b s e =
     rw (command-values 0x53 3 (0x53 ∷ a ∷ b ∷ s) (terminalFault n a b) refl (omega arith) (omega arith) ∙ e)
@@ -125,10 +123,10 @@ four (c ∷ k ∷ a ∷ []) h = absurd (omega arith)
 four (c ∷ k ∷ a ∷ b ∷ s) h = refl
 
 pub data EdgeView (n next : ℕ) (s : List ℕ) : Type 0 where
-  edge : (k a b : ℕ) (rest : List ℕ) → edgeStep n next s ≡ EdgeStep.Edge k a b → s ≡ 0x43 ∷ k ∷ a ∷ b ∷ rest
+  edge : (k a b : ℕ) (rest : List ℕ) → edgeStep n next s ≡ Step.Edge k a b → s ≡ 0x43 ∷ k ∷ a ∷ b ∷ rest
       → next ≤ k → k < 64 → endFault n a b ≡ 0 → EdgeView n next s
-  end : edgeStep n next s ≡ EdgeStep.End → s ≡ 0x45 ∷ [] → EdgeView n next s
-  refused : (r : ℕ) → edgeStep n next s ≡ EdgeStep.Refused r → 0 < r → r ≤ 10 → EdgeView n next s
+  end : edgeStep n next s ≡ Step.End → s ≡ 0x45 ∷ [] → EdgeView n next s
+  refused : (r : ℕ) → edgeStep n next s ≡ Step.Refused r → 0 < r → r ≤ 10 → EdgeView n next s
 
 -- A number is free of faults exactly if it is not below the next one and below 64.
 number-none : (next k : ℕ) → numberFault next k ≡ 0 → (next ≤ k) × (k < 64)
@@ -176,12 +174,12 @@ edge-view n next s = go (eqb (at s 0) 0x45) refl
     go false c = at-edge c (edgeRefusal n next s) refl
 
 pub edge-taken : (n next k a b : ℕ) (s : List ℕ) → next ≤ k → k < 64 → endFault n a b ≡ 0
-    → edgeStep n next (0x43 ∷ k ∷ a ∷ b ∷ s) ≡ EdgeStep.Edge k a b
+    → edgeStep n next (0x43 ∷ k ∷ a ∷ b ∷ s) ≡ Step.Edge k a b
 unfolding edgeStep edgeRefusal
 edge-taken n next k a b s h l e =
     rw (command-values 0x43 4 (0x43 ∷ k ∷ a ∷ b ∷ s) (numberFault next k then endFault n a b) refl (omega arith) (omega arith)
     ∙ none-then _ (none-number next k h l) ∙ e)
 
-pub end-taken : (n next : ℕ) → edgeStep n next (0x45 ∷ []) ≡ EdgeStep.End
+pub end-taken : (n next : ℕ) → edgeStep n next (0x45 ∷ []) ≡ Step.End
 unfolding edgeStep endRefusal _when_
 end-taken n next = refl

@@ -2,6 +2,7 @@
 --
 --   missing n s, unfit c s    the refusals 1 and 2 of the command at the head of the bytes s
 --   sizeStep s, terminalsStep n s, edgeStep n next s     what that command gives: its values, the end, or a refusal
+--   stepOf w s                what it gives where w is awaited, and number t the paper's number of the answer t
 --   edges turns N next s, walk N next s     the edge commands and the end, read into N
 --   decodeOf s                the bytes s read: the refusal's number beside the record
 --   commandOf k s, edgeCommand N k     the bytes of slot k
@@ -18,9 +19,8 @@ use Rattle.network.specs.declared.Network.{Network}
 use Rattle.network.specs.Record.{_when_, _then_, unlessRefused, sizeFault, terminalFault, endFault, faultOf, slots, Slot, slot, bare, noNetwork, withEdge}
 use Rattle.codec.specs.declared.Decoded.{Decoded}
 use Rattle.codec.specs.declared.Encoded.{Encoded}
-use Rattle.codec.specs.declared.SizeStep.{SizeStep}
-use Rattle.codec.specs.declared.TerminalsStep.{TerminalsStep}
-use Rattle.codec.specs.declared.EdgeStep.{EdgeStep}
+use Rattle.codec.specs.declared.Awaited.{Awaited}
+use Rattle.codec.specs.declared.Step.{Step}
 
 -- ---- a command
 
@@ -57,49 +57,37 @@ edgeRefusal n next s =
 unfoldable pub endRefusal : List ℕ → ℕ
 endRefusal s = 3 when ltb 1 (length s)
 
--- The answer of a step from its refusal and its values.
-abbrev pub sizeAnswer : ℕ → ℕ → SizeStep
-sizeAnswer zero n = SizeStep.Size n
-sizeAnswer (suc r) n = SizeStep.Refused (suc r)
+-- A command's answer: its refusal if it has one, else what it gives.
+abbrev pub answer : ℕ → Step → Step
+answer zero t = t
+answer (suc r) t = Step.Refused (suc r)
 
-abbrev pub terminalsAnswer : ℕ → ℕ → ℕ → TerminalsStep
-terminalsAnswer zero a b = TerminalsStep.Terminals a b
-terminalsAnswer (suc r) a b = TerminalsStep.Refused (suc r)
+unfoldable pub sizeStep : List ℕ → Step
+sizeStep s = answer (sizeRefusal s) (Step.Size (at s 1))
 
-abbrev pub edgeAnswer : ℕ → ℕ → ℕ → ℕ → EdgeStep
-edgeAnswer zero k a b = EdgeStep.Edge k a b
-edgeAnswer (suc r) k a b = EdgeStep.Refused (suc r)
-
-abbrev pub endAnswer : ℕ → EdgeStep
-endAnswer zero = EdgeStep.End
-endAnswer (suc r) = EdgeStep.Refused (suc r)
-
-unfoldable pub sizeStep : List ℕ → SizeStep
-sizeStep s = sizeAnswer (sizeRefusal s) (at s 1)
-
-unfoldable pub terminalsStep : ℕ → List ℕ → TerminalsStep
-terminalsStep n s = terminalsAnswer (terminalsRefusal n s) (at s 1) (at s 2)
+unfoldable pub terminalsStep : ℕ → List ℕ → Step
+terminalsStep n s = answer (terminalsRefusal n s) (Step.Terminals (at s 1) (at s 2))
 
 -- An edge or the end, by the command byte.
-unfoldable pub edgeStep : ℕ → ℕ → List ℕ → EdgeStep
+unfoldable pub edgeStep : ℕ → ℕ → List ℕ → Step
 edgeStep n next s =
     cond (eqb (at s 0) 0x45)
-    (endAnswer (endRefusal s))
-    (edgeAnswer (edgeRefusal n next s) (at s 1) (at s 2) (at s 3))
+    (answer (endRefusal s) Step.End)
+    (answer (edgeRefusal n next s) (Step.Edge (at s 1) (at s 2) (at s 3)))
+
+-- The command that each place awaits, with what is known there: the number of nodes, and the least edge number allowed.
+abbrev pub stepOf : Awaited → List ℕ → Step
+stepOf Awaited.Size s = sizeStep s
+stepOf (Awaited.Terminals n) s = terminalsStep n s
+stepOf (Awaited.Edge n next) s = edgeStep n next s
 
 -- The number of each case of an answer: that of its refusal, and 0 where the command was taken.
-abbrev pub sizeNumber : SizeStep → ℕ
-sizeNumber (SizeStep.Size n) = 0
-sizeNumber (SizeStep.Refused r) = r
-
-abbrev pub terminalsNumber : TerminalsStep → ℕ
-terminalsNumber (TerminalsStep.Terminals a b) = 0
-terminalsNumber (TerminalsStep.Refused r) = r
-
-abbrev pub edgeNumber : EdgeStep → ℕ
-edgeNumber (EdgeStep.Edge k a b) = 0
-edgeNumber EdgeStep.End = 0
-edgeNumber (EdgeStep.Refused r) = r
+abbrev pub number : Step → ℕ
+number (Step.Size n) = 0
+number (Step.Terminals a b) = 0
+number (Step.Edge k a b) = 0
+number Step.End = 0
+number (Step.Refused r) = r
 
 -- ---- reading
 
@@ -114,27 +102,37 @@ abbrev pub endedBy : ℕ → Network → Decoded
 endedBy zero N = accept N
 endedBy (suc r) N = refuse (suc r)
 
+-- Each place has its own command. Another's would be unfit, 2: no step gives one, as the views of proofs/Steps show.
+
 -- The edge commands and the end, read into N. Each turn takes one command.
 unfoldable pub edges : ℕ → Network → ℕ → List ℕ → Decoded
 edges zero N next s = refuse 1
 edges (suc turns) N next s =
     elim (edgeStep (N .nodes) next s) [
-      | EdgeStep.Edge k a b ↦ edges turns (withEdge N k a b) (suc k) (drop 4 s)
-      | EdgeStep.End ↦ accept N
-      | EdgeStep.Refused r ↦ refuse r
+      | Step.Size n ↦ refuse 2
+      | Step.Terminals a b ↦ refuse 2
+      | Step.Edge k a b ↦ edges turns (withEdge N k a b) (suc k) (drop 4 s)
+      | Step.End ↦ accept N
+      | Step.Refused r ↦ refuse r
     ]
 
 -- No command is empty, so as many turns as there are bytes suffice.
 abbrev pub walk : Network → ℕ → List ℕ → Decoded
 walk N next s = edges (length s) N next s
 
-unfoldable pub afterTerminals : ℕ → TerminalsStep → List ℕ → Decoded
-afterTerminals n (TerminalsStep.Terminals a b) s = walk (bare n a b) 0 s
-afterTerminals n (TerminalsStep.Refused r) s = refuse r
+unfoldable pub afterTerminals : ℕ → Step → List ℕ → Decoded
+afterTerminals n (Step.Size m) s = refuse 2
+afterTerminals n (Step.Terminals a b) s = walk (bare n a b) 0 s
+afterTerminals n (Step.Edge k a b) s = refuse 2
+afterTerminals n Step.End s = refuse 2
+afterTerminals n (Step.Refused r) s = refuse r
 
-unfoldable pub afterSize : SizeStep → List ℕ → Decoded
-afterSize (SizeStep.Size n) s = afterTerminals n (terminalsStep n s) (drop 3 s)
-afterSize (SizeStep.Refused r) s = refuse r
+unfoldable pub afterSize : Step → List ℕ → Decoded
+afterSize (Step.Size n) s = afterTerminals n (terminalsStep n s) (drop 3 s)
+afterSize (Step.Terminals a b) s = refuse 2
+afterSize (Step.Edge k a b) s = refuse 2
+afterSize Step.End s = refuse 2
+afterSize (Step.Refused r) s = refuse r
 
 -- The commands in their order: 50 with one operand, 53 with two, then the rest. The first that fails decides.
 unfoldable pub decodeOf : List ℕ → Decoded

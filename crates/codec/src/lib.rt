@@ -7,6 +7,7 @@
 use network::Network;
 
 mod command;
+mod held;
 mod reader;
 mod writer;
 
@@ -25,20 +26,18 @@ pub struct Encoded {
     pub count: usize,
 }
 
-// What the command 50 gives: the number of nodes, or a refusal.
-pub enum SizeStep {
+// The command that the reader waits for: 50; 53, with the number of nodes; 43 or 45, with the number of nodes and the least edge
+// number allowed.
+pub enum Awaited {
+    Size,
+    Terminals(u8),
+    Edge(u8, u8),
+}
+
+// What a command gives: its values, the end, or a refusal.
+pub enum Step {
     Size(u8),
-    Refused(u8),
-}
-
-// What the command 53 gives: source and sink, or a refusal.
-pub enum TerminalsStep {
     Terminals(u8, u8),
-    Refused(u8),
-}
-
-// What the command 43 or 45 gives: an edge's number and ends, the end, or a refusal.
-pub enum EdgeStep {
     Edge(u8, u8, u8),
     End,
     Refused(u8),

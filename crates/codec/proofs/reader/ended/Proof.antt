@@ -8,17 +8,17 @@ use borrow.Author.Needs.{needs}
 use Rattle.codec.proofs.reader.ended.Statement.{statement}
 use Rattle.codec.proofs.reader.ended.Tie as tie
 
-edge-number-requires : tie.Need-edge-number-requires
-edge-number-requires c κs = search needs
+number-requires : tie.Need-number-requires
+number-requires c κs = search needs
 
 refused-requires : tie.Need-refused-requires
 refused-requires c κs = search needs
 
 returns : tie.Need-returns
-returns c = c .refused .ensures ∙ refuse-ended _ _ (omega arith) ∙ ap (λ r. endedBy r (c .before .before .before .args .network)) (c .before .before .edge-number .ensures)
+returns c = c .refused .ensures ∙ refuse-ended _ _ (omega arith) ∙ ap (λ r. endedBy r (c .before .before .before .args .network)) (c .before .before .number .ensures)
 
 returns-2 : tie.Need-returns-2
-returns-2 c = ap (λ r. endedBy r (c .before .before .args .network)) (sym (c .if1 .left) ∙ c .before .edge-number .ensures)
+returns-2 c = ap (λ r. endedBy r (c .before .before .args .network)) (sym (c .if1 .left) ∙ c .before .number .ensures)
 
 pub ended-spec : {M : Type 1} → statement M
-ended-spec = tie.close (tie.spec edge-number-requires refused-requires returns returns-2)
+ended-spec = tie.close (tie.spec number-requires refused-requires returns returns-2)

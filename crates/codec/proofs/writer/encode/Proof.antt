@@ -1,7 +1,7 @@
 -- `writer::encode` meets its contract: a refusal leaves the buffer, and otherwise header, slots and end stand in it.
 -- Assumes nothing.
-use mathlib.Core.Path.{sym, ap, _∙_}
-use Prim.Native.Nat.{ℕ, _≤_}
+use mathlib.Core.Path.{sym, _∙_}
+use Prim.Native.Nat.{_≤_}
 use native.Mathlib.Omega.{arith}
 use borrow.Author.Tests.{lt-ltb, le-ltb}
 use lib.ListN.{length}
@@ -62,10 +62,10 @@ returns-3 c =
     let p = c .before .before .put-slots in
     let count = c .before .before .before .before .before .before .before .before .before .encoded-length .ensures in
     let room : length (encodeOf (a .network)) ≤ length (a .plan .now) = rw count at (c .before .before .before .before .before .before .before .before .if2 .left) in
-    let bytes = end-bytes (a .network) (a .plan .now) room (p .result) (p .last .0) (rw (c .before .before .before .before .before .before .put-header .ensures) at (p .ensures .0)) (p .ensures .1) in
-    let done = encode-written (a .network) (a .plan .now)
-    (none-then _ (sym (c .before .before .before .before .before .before .before .before .before .before .before .fault .ensures) ∙ c .before .before .before .before .before .before .before .before .before .before .if1 .left) ∙ none-when 15 (le-ltb _ _ room)) in
-    (ap (λ (n : ℕ). record { refusal = 0; count = n }) count ∙ done .0, bytes ∙ done .1)
+    encode-written (a .network) (a .plan .now) _ _
+    (none-then _ (sym (c .before .before .before .before .before .before .before .before .before .before .before .fault .ensures) ∙ c .before .before .before .before .before .before .before .before .before .before .if1 .left) ∙ none-when 15 (le-ltb _ _ room))
+    count
+    (end-bytes (a .network) (a .plan .now) room (p .result) (p .last .0) (rw (c .before .before .before .before .before .before .put-header .ensures) at (p .ensures .0)) (p .ensures .1))
 
 pub encode-spec : {M : Type 1} → statement M
 encode-spec =

@@ -1,10 +1,10 @@
--- `reader::terminals_at` meets its contract: each way through it is a law of the step at an offset.
+-- `command::terminals_at` meets its contract: each way through it is a law of the step at an offset.
 -- Assumes nothing.
 use mathlib.Core.Path.{sym, _∙_}
-use Rattle.codec.proofs.Offsets.{terminals-refused, terminals-nothing, terminals-another, terminals-missing, terminals-values}
+use Rattle.codec.proofs.Offsets.{refused, terminals-nothing, terminals-another, terminals-missing, terminals-values}
 use borrow.Author.Needs.{needs}
-use Rattle.codec.proofs.reader.terminals_at.Statement.{statement}
-use Rattle.codec.proofs.reader.terminals_at.Tie as tie
+use Rattle.codec.proofs.command.terminals_at.Statement.{statement}
+use Rattle.codec.proofs.command.terminals_at.Tie as tie
 
 returns : tie.Need-returns
 returns c = terminals-nothing _ _ _ (c .if1 .taken)
@@ -37,7 +37,7 @@ terminal-fault-requires : tie.Need-terminal-fault-requires
 terminal-fault-requires c κs = search needs
 
 returns-4 : tie.Need-returns-4
-returns-4 c = terminals-refused _ _ _ (c .if4 .taken) ∙ terminals-values _ _ _ _ (c .before .before .before .before .before .before .before .if1 .left) (c .before .before .before .before .before .if2 .left) (c .before .before .before .before .if3 .left) (c .before .terminal-fault .ensures)
+returns-4 c = refused _ _ (c .if4 .taken) ∙ terminals-values _ _ _ _ (c .before .before .before .before .before .before .before .if1 .left) (c .before .before .before .before .before .if2 .left) (c .before .before .before .before .if3 .left) (c .before .terminal-fault .ensures)
 
 returns-5 : tie.Need-returns-5
 returns-5 c = terminals-values _ _ _ 0 (c .before .before .before .before .before .before .before .if1 .left) (c .before .before .before .before .before .if2 .left) (c .before .before .before .before .if3 .left) (sym (c .if4 .left) ∙ c .before .terminal-fault .ensures)

@@ -1,10 +1,10 @@
--- `reader::edge_at` meets its contract: each way through it is a law of the step at an offset.
+-- `command::edge_at` meets its contract: each way through it is a law of the step at an offset.
 -- Assumes nothing.
 use mathlib.Core.Path.{sym, _∙_}
-use Rattle.codec.proofs.Offsets.{edge-refused, edge-nothing, end-trailing, end-alone, edge-another, edge-missing, edge-values}
+use Rattle.codec.proofs.Offsets.{refused, edge-nothing, end-trailing, end-alone, edge-another, edge-missing, edge-values}
 use borrow.Author.Needs.{needs}
-use Rattle.codec.proofs.reader.edge_at.Statement.{statement}
-use Rattle.codec.proofs.reader.edge_at.Tie as tie
+use Rattle.codec.proofs.command.edge_at.Statement.{statement}
+use Rattle.codec.proofs.command.edge_at.Tie as tie
 
 returns : tie.Need-returns
 returns c = edge-nothing _ _ _ _ (c .if1 .taken)
@@ -52,7 +52,7 @@ edge-fault-requires : tie.Need-edge-fault-requires
 edge-fault-requires c κs = search needs
 
 returns-6 : tie.Need-returns-6
-returns-6 c = edge-refused _ _ _ _ (c .if6 .taken) ∙ edge-values _ _ _ _ _ (c .before .before .before .before .before .before .before .before .before .if1 .left) (c .before .before .before .before .before .before .if4 .left) (c .before .before .before .before .before .if5 .left) (c .before .edge-fault .ensures)
+returns-6 c = refused _ _ (c .if6 .taken) ∙ edge-values _ _ _ _ _ (c .before .before .before .before .before .before .before .before .before .if1 .left) (c .before .before .before .before .before .before .if4 .left) (c .before .before .before .before .before .if5 .left) (c .before .edge-fault .ensures)
 
 returns-7 : tie.Need-returns-7
 returns-7 c = edge-values _ _ _ _ 0 (c .before .before .before .before .before .before .before .before .before .if1 .left) (c .before .before .before .before .before .before .if4 .left) (c .before .before .before .before .before .if5 .left) (sym (c .if6 .left) ∙ c .before .edge-fault .ensures)

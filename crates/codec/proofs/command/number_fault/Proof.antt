@@ -1,10 +1,10 @@
--- `reader::number_fault` meets its contract: each return rewrites the rule by the tests that led there.
+-- `command::number_fault` meets its contract: each return rewrites the rule by the tests that led there.
 -- Assumes nothing.
 use borrow.Author.Tests.{lt-ltb, le-ltb}
 use Rattle.network.specs.Record.{_when_, _then_}
 use Rattle.codec.specs.Format.{numberFault}
-use Rattle.codec.proofs.reader.number_fault.Statement.{statement}
-use Rattle.codec.proofs.reader.number_fault.Tie as tie
+use Rattle.codec.proofs.command.number_fault.Statement.{statement}
+use Rattle.codec.proofs.command.number_fault.Tie as tie
 
 returns : tie.Need-returns
 unfolding numberFault _when_ _then_

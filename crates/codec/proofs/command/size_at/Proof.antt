@@ -1,10 +1,10 @@
--- `reader::size_at` meets its contract: each way through it is a law of the step at an offset.
+-- `command::size_at` meets its contract: each way through it is a law of the step at an offset.
 -- Assumes nothing.
 use mathlib.Core.Path.{sym, _∙_}
-use Rattle.codec.proofs.Offsets.{size-refused, size-nothing, size-another, size-missing, size-values}
+use Rattle.codec.proofs.Offsets.{refused, size-nothing, size-another, size-missing, size-values}
 use borrow.Author.Needs.{needs}
-use Rattle.codec.proofs.reader.size_at.Statement.{statement}
-use Rattle.codec.proofs.reader.size_at.Tie as tie
+use Rattle.codec.proofs.command.size_at.Statement.{statement}
+use Rattle.codec.proofs.command.size_at.Tie as tie
 
 returns : tie.Need-returns
 returns c = size-nothing _ _ (c .if1 .taken)
@@ -31,7 +31,7 @@ size-fault-requires : tie.Need-size-fault-requires
 size-fault-requires c κs = search needs
 
 returns-4 : tie.Need-returns-4
-returns-4 c = size-refused _ _ (c .if4 .taken) ∙ size-values _ _ _ (c .before .before .before .before .before .before .if1 .left) (c .before .before .before .before .if2 .left) (c .before .before .before .if3 .left) (c .before .size-fault .ensures)
+returns-4 c = refused _ _ (c .if4 .taken) ∙ size-values _ _ _ (c .before .before .before .before .before .before .if1 .left) (c .before .before .before .before .if2 .left) (c .before .before .before .if3 .left) (c .before .size-fault .ensures)
 
 returns-5 : tie.Need-returns-5
 returns-5 c = size-values _ _ 0 (c .before .before .before .before .before .before .if1 .left) (c .before .before .before .before .if2 .left) (c .before .before .before .if3 .left) (sym (c .if4 .left) ∙ c .before .size-fault .ensures)

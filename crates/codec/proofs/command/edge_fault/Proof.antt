@@ -1,11 +1,11 @@
--- `reader::edge_fault` meets its contract: the first fault is that of the number, or else that of the ends.
+-- `command::edge_fault` meets its contract: the first fault is that of the number, or else that of the ends.
 -- Assumes nothing.
 use mathlib.Core.Path.{sym, _∙_}
 use native.Mathlib.Omega.{arith}
 use Rattle.network.proofs.Refusals.{none-then, some-then}
 use borrow.Author.Needs.{needs}
-use Rattle.codec.proofs.reader.edge_fault.Statement.{statement}
-use Rattle.codec.proofs.reader.edge_fault.Tie as tie
+use Rattle.codec.proofs.command.edge_fault.Statement.{statement}
+use Rattle.codec.proofs.command.edge_fault.Tie as tie
 
 number-fault-requires : tie.Need-number-fault-requires
 number-fault-requires c κs = search needs
