@@ -12,7 +12,7 @@ use lib.Bits.{bitAnd}
 use lib.Count.{ones, trailingZeros, under, ones-step, ones-ones}
 use lib.Dec.{T, eqb, eqb·suc-zero, eqb·suc-suc}
 use Rattle.bitset.specs.Members.{has, _⊆_, insert, size, Lowest}
-use Rattle.bitset.proofs.Members.{bit, has-first, first-digit, has-next, has-zero, has-insert, has-inserted, has-and}
+use Rattle.bitset.proofs.Members.{bit, has-first, first-digit, has-next, has-insert, has-inserted, has-and}
 use Rattle.bitset.proofs.Subsets.{insert-⊆}
 
 -- Nothing stands below 0.
@@ -34,11 +34,6 @@ pub size-same : (w s t : ℕ) → ((k : ℕ) → k < w → has s k ≡ has t k) 
 size-same zero s t same = rw (size-none s, size-none t)
 size-same (suc w) s t same =
     rw (size-suc w s, size-suc w t, same w (le-refl (suc w)), size-same w s t (λ k h. same k (omega arith)))
-
--- The empty set has no members to count.
-pub size-zero : (w : ℕ) → size w 0 ≡ 0
-size-zero zero = size-none 0
-size-zero (suc w) = rw (size-suc w 0, has-zero w, size-zero w)
 
 -- A test that implies another counts no more than it.
 bit-mono : (a b : Bool) → (T a → T b) → bit a ≤ bit b

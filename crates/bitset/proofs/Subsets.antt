@@ -8,7 +8,7 @@ use Prim.Native.Nat.{ℕ, zero, suc, _+_, _-_, _^_, _≤_, _<_}
 use native.Mathlib.Nat.{le-refl, lt-of-not-le, pow-suc, sub-add-cancel}
 use native.Mathlib.Omega.{arith}
 use native.Mathlib.Bridge.{le-prop}
-use native.Mathlib.Decide.{map-dec, ℕ-discrete, decLt}
+use native.Mathlib.Decide.{decLt}
 use denote.Floats.{is-true, passes}
 use lib.Arith.{lt-of-le-ne, lt-one}
 use lib.Bits.{bitAnd, and-le-r}
@@ -51,10 +51,6 @@ subset-and s t = (
   λ h. same-members (bitAnd s t) s (λ k. rw (has-and s t k) (and-absorb (has s k) (has t k) (h k))),
   λ e k. absorb-and (has s k) (has t k) (sym (has-and s t k) ∙ ap (λ x. has x k) e),
 )
-
--- Inclusion is decided.
-pub ⊆-dec : (s t : ℕ) → Dec (s ⊆ t)
-⊆-dec s t = map-dec (subset-and s t .1) (subset-and s t .0) (ℕ-discrete (bitAnd s t) s)
 
 -- A subset is no larger a number.
 pub subset-le : (s t : ℕ) → s ⊆ t → s ≤ t

@@ -1,11 +1,11 @@
 -- The rows of a network: all mincuts, each once and beside its source side.
 -- Assumes a sound network.
-use mathlib.Core.Path.{_≡_, refl, sym, ap, _∙_}
+use mathlib.Core.Path.{_≡_, refl, sym}
 use mathlib.Core.Bool.{Bool, true, false}
-use mathlib.Core.List.{List, [], _∷_, List·Memᴰ, List·Memᴰ·head, List·Memᴰ·tail, Memᴰ·map, Memᴰ·of-map}
+use mathlib.Core.List.{[], List·Memᴰ, Memᴰ·map, Memᴰ·of-map}
 use mathlib.Core.Logic.{inl, inr, _↔_}
-use Prim.Native.Nat.{ℕ, _-_, _^_, _≤_, _<_}
-use native.Mathlib.Nat.{not-suc-le-zero, lt-of-lt-of-le}
+use Prim.Native.Nat.{ℕ, _-_, _^_, _≤_}
+use native.Mathlib.Nat.{lt-of-lt-of-le}
 use native.Mathlib.Omega.{arith}
 use lib.Dec.{T}
 use lib.ListN.{length}
@@ -13,28 +13,18 @@ use Rattle.bitset.specs.Members.{_∖_, size}
 use Rattle.bitset.proofs.Subsets.{zero-⊆}
 use Rattle.bitset.proofs.Sets.{in-insert, in-drop, not-zero, size-drop}
 use Rattle.network.specs.declared.Network.{Network}
-use Rattle.graph.specs.Paths.{Minpath, Distinct}
+use Rattle.graph.specs.Paths.{Distinct}
 use Rattle.graph.specs.Cuts.{Mincut}
 use Rattle.graph.specs.SourceSides.{SourceSide}
 use Rattle.graph.specs.Relevant.{relevantNodes, sourceSideOf, boundaryOf}
-use Rattle.graph.proofs.Cuts.{mincut-none}
 use Rattle.graph.proofs.Sound.{Sound}
 use Rattle.graph.proofs.Relevant.{in-relevantNodes}
-use Rattle.graph.proofs.Correspondence.{side-of-mincut, mincut-of-side, side-none}
+use Rattle.graph.proofs.Correspondence.{side-of-mincut, mincut-of-side}
 use Rattle.cuts.specs.Enumeration.{relevantPart, blank, joined, start, isOpen, Row, cutsOf, rowsIf, joinRows, rows}
 use Rattle.cuts.proofs.Branches.{Open, sink-relevant, start-grown}
 use Rattle.cuts.proofs.Halves.{Within}
 use Rattle.cuts.proofs.Recursion.{rows-bound}
 use Rattle.cuts.proofs.Rows.{open-test, Listed, rows-listed}
-
--- A list that has no cut twice, and no row but q, is that row alone.
-singleton : (q : Row) (l : List Row) → Distinct (cutsOf l) → 0 < length l → ((r : Row) → List·Memᴰ r l → r ≡ q) → l ≡ q ∷ []
-unfolding Distinct
-singleton q [] once some only = absurd (not-suc-le-zero some)
-singleton q (x ∷ []) once some only = rw (only x (List·Memᴰ·head refl))
-singleton q (x ∷ y ∷ l) once some only =
-    let same : x ≡ y = only x (List·Memᴰ·head refl) ∙ sym (only y (List·Memᴰ·tail (List·Memᴰ·head refl))) in
-    absurd (once .0 (List·Memᴰ·head (ap (λ (r : Row). r .0) same)))
 
 module _ (N : Network) (S : Sound N) where
   -- The first branch is open.
@@ -96,10 +86,6 @@ module _ (N : Network) (S : Sound N) where
   pub cuts-once : Distinct (cutsOf (rows N))
   cuts-once = all-listed .once
 
-  -- There is at least one row.
-  pub rows-some : 0 < length (rows N)
-  rows-some = all-listed .some
-
   -- There are no more rows than sets of relevant nodes between source and sink.
   pub rows-at-most : length (rows N) ≤ 2 ^ (size 32 (relevantNodes N) - 2)
   unfolding blank joined
@@ -110,10 +96,3 @@ module _ (N : Network) (S : Sound N) where
       (in-drop all (N .sink) (N .source) .1 (in-relevantNodes N S (N .source) .1 (inl refl), S .differ)) in
       let count : size 32 all - 2 ≡ size 32 (all ∖ 2 ^ N .sink ∖ 2 ^ N .source) = omega arith in
       rw count (rows-bound (relevantPart N) (start N))
-
-  -- Without a minpath there is one row, the empty cut beside the source alone.
-  pub rows-none : ((r : ℕ) → Minpath N r → ⊥) → rows N ≡ (0, 2 ^ N .source) ∷ []
-  rows-none none = singleton (0, 2 ^ N .source) (rows N) cuts-once rows-some (λ r m.
-      let cut : r .0 ≡ 0 = mincut-none N none (r .0) .0 (in-rows r .0 m .0) in
-      let side : r .1 ≡ 2 ^ N .source = side-none N S none (r .1) .0 (in-rows-side r .0 m .0) in
-      λ i. (cut i, side i))

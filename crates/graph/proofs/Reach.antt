@@ -3,7 +3,7 @@
 use mathlib.Core.Path.{_≡_, refl, sym}
 use mathlib.Core.Bool.{Bool, true, false}
 use mathlib.Core.List.{List, [], _∷_, List·Memᴰ, List·Memᴰ·head, List·Memᴰ·tail, List·Memᴰ·not-nil, List·Memᴰ·cases-cons}
-use mathlib.Core.Logic.{_⊎_, inl, inr, ⊎-map, _↔_, Dec·not-not, Dec·of-iff}
+use mathlib.Core.Logic.{_⊎_, inl, inr, ⊎-map, _↔_, Dec·not-not}
 use Prim.Native.Nat.{ℕ, zero, suc, _+_, _^_, _≤_, _<_}
 use native.Mathlib.Nat.{lt-of-le-of-lt}
 use native.Mathlib.Decide.{decLt}
@@ -212,10 +212,6 @@ module _ (N : Network) (B : Bounded N) where
     λ m. let w = in-reach (2 ^ u) v .0 m in rw (in-single u (w .0) .0 (w .1 .0)) at (w .1 .1),
     λ c. in-reach (2 ^ u) v .1 (u, (in-single u u .1 refl, c)),
   )
-
-  -- Whether two nodes are connected is decided.
-  pub connected-dec : (u v : ℕ) → Dec (Connected N u v)
-  connected-dec u v = Dec·of-iff (in-reach-single u v) (∈-dec v (reachOf N (2 ^ u)))
 
 -- A network with fewer edges stays within the same bounds.
 pub bounded-only : (N : Network) → Bounded N → (h : ℕ) → h ⊆ N .present .0 → Bounded (only N h)

@@ -1,6 +1,6 @@
 -- Counting the members of a list that pass a test; and what a permutation keeps: the length, and the members.
 -- Assumes nothing.
-use mathlib.Core.Path.{_≡_, refl, sym, _∙_}
+use mathlib.Core.Path.{_≡_, refl}
 use mathlib.Core.Logic.{_⊎_, inl, inr}
 use mathlib.Core.Bool.{Bool, true, false}
 use mathlib.Core.List.{List, [], _∷_, _++_, List·Memᴰ, List·Memᴰ·head, List·Memᴰ·tail, List·Memᴰ·not-nil, List·Memᴰ·cases-cons, Memᴰ·cast}
@@ -78,15 +78,6 @@ module _ {A : Type 0} where
   getD-set-from (x ∷ l) zero (suc j) d = refl
   getD-set-from (x ∷ l) (suc i) zero d = refl
   getD-set-from (x ∷ l) (suc i) (suc j) d = getD-set-from l i j d
-
-  -- Every member passes the test that is always true.
-  count-all : (l : List A) → countIf (λ x. true) l ≡ length l
-  count-all [] = count-nil (λ x. true)
-  count-all (x ∷ l) = rw (count-cons (λ x. true) x l, count-all l) (omega arith)
-
-  -- A permutation keeps the length.
-  pub permutation-length : (l m : List A) → Permutation l m → length l ≡ length m
-  permutation-length l m h = sym (count-all l) ∙ h (λ x. true) ∙ count-all m
 
   -- A permutation keeps a member that a test tells from all others.
   pub permutation-keeps : (l m : List A) → Permutation l m → (is : A → Bool) (a : A) → is a ≡ true → ((b : A) → is b ≡ true → a ≡ b)
