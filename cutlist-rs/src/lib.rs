@@ -46,3 +46,8 @@ mod sys;
 pub use plan::{widths, Mincut, Plan, Relevant, Verdict};
 pub use refusal::Refusal;
 pub use sets::{EdgeSet, Members, NodeSet};
+
+/// The example of the README, compiled.
+#[cfg(doctest)]
+#[doc = include_str!("../../README.md")]
+struct Readme;
