@@ -1,15 +1,16 @@
--- No line is longer than `maxLine` bytes.
+-- No line is longer than `maxLine` bytes, and no list longer than `maxText`.
 -- Assumes nothing.
 use mathlib.Core.Path.{refl}
 use mathlib.Core.Bool.{Bool, true, false}
 use mathlib.Core.List.{List, [], _∷_}
-use Prim.Native.Nat.{ℕ, zero, suc, _+_, _≤_, _<_, _^_, zero-le}
+use Prim.Native.Nat.{ℕ, zero, suc, _+_, _*_, _^_, _≤_, _<_, zero-le}
 use native.Mathlib.Nat.{le-refl}
 use native.Mathlib.Omega.{arith}
 use lib.Dec.{ltb}
-use lib.ListN.{length}
+use lib.ListN.{length, length-append}
 use Rattle.bitset.specs.Members.{has, membersFrom, members}
-use Rattle.text.specs.Text.{digits, decimal, spaced, numbers, lineOf, wordLine, maxLine}
+use Rattle.text.specs.Ascii.{bytes}
+use Rattle.text.specs.Text.{digits, decimal, spaced, numbers, lineOf, wordLine, rowLines, listText, maxLine, maxRows, maxText}
 use Rattle.text.proofs.Decimal.{length-decimal}
 use Rattle.text.proofs.Numbers.{spaced-nil, length-spaced, length-numbers, numbers-nil}
 use Rattle.text.proofs.Lines.{length-line, length-word}
@@ -46,3 +47,16 @@ line-bound c s =
 -- A line of a short word and a number of 64 bits is far shorter.
 pub word-bound : (t : List ℕ) (n : ℕ) → length t < 8 → n < 2 ^ 64 → length (wordLine t n) ≤ 29
 word-bound t n h l = omega (arith, length-word t n, length-decimal 19 n (omega arith))
+
+-- So the lines of some rows have at most so many bytes each.
+pub rows-bound : (cuts sides : List ℕ) → length (rowLines cuts sides) ≤ length cuts * maxLine
+unfolding rowLines
+rows-bound [] sides = zero-le
+rows-bound (c ∷ cuts) [] = zero-le
+rows-bound (c ∷ cuts) (s ∷ sides) = rw length-append (omega (arith, line-bound c s, rows-bound cuts sides))
+
+-- A list of at most `maxRows` rows fits into `maxText` bytes.
+pub text-bound : (cuts sides : List ℕ) → length cuts ≤ maxRows → length (listText cuts sides) ≤ maxText
+unfolding listText
+text-bound cuts sides h =
+    rw length-append (omega (arith, word-bound (bytes "cuts") (length cuts) (omega arith) (omega arith), rows-bound cuts sides))

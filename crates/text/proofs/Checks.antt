@@ -1,4 +1,4 @@
--- The definitions on lines that are known: those of the bridge, of a cut without cables, and the longest.
+-- The definitions on texts that are known: the list of the bridge, the line of a cut without cables, a refusal, and the longest line.
 -- Assumes nothing.
 use mathlib.Core.Path.{_≡_, refl}
 use mathlib.Core.List.{[], _∷_}
@@ -6,13 +6,13 @@ use Prim.Native.Nat.{_-_, _^_}
 use lib.ListN.{length}
 use Rattle.bitset.specs.Members.{has, membersFrom}
 use Rattle.text.specs.Ascii.{bytes}
-use Rattle.text.specs.Text.{digits, decimal, spaced, numbers, lineOf, wordLine, countLine, refusalLine, maxLine}
+use Rattle.text.specs.Text.{digits, decimal, spaced, numbers, lineOf, wordLine, refusalLine, rowLines, listText, maxLine}
 
--- The lines of the bridge.
+-- The list of the bridge, whole.
 pub bridge :
-    countLine 4 ∷ lineOf 3 1 ∷ lineOf 14 3 ∷ lineOf 21 5 ∷ lineOf 24 7 ∷ []
-    ≡ bytes "cuts 4\n" ∷ bytes "0 1 | 0\n" ∷ bytes "1 2 3 | 0 1\n" ∷ bytes "0 2 4 | 0 2\n" ∷ bytes "3 4 | 0 1 2\n" ∷ []
-unfolding has membersFrom digits decimal spaced numbers lineOf wordLine
+    listText (3 ∷ 14 ∷ 21 ∷ 24 ∷ []) (1 ∷ 3 ∷ 5 ∷ 7 ∷ [])
+    ≡ bytes "cuts 4\n0 1 | 0\n1 2 3 | 0 1\n0 2 4 | 0 2\n3 4 | 0 1 2\n"
+unfolding has membersFrom digits decimal spaced numbers lineOf wordLine rowLines listText
 bridge = refl
 
 -- A cut without cables.

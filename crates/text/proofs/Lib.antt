@@ -1,9 +1,11 @@
--- The laws of the printed lines.
+-- The laws of what is printed.
 pub mod Bytes
 pub mod Decimal
 pub mod Members
 pub mod Written
 pub mod Numbers
 pub mod Lines
+pub mod Rows
 pub mod Bound
+pub mod Lists
 pub mod Checks

@@ -3,11 +3,12 @@
 use mathlib.Core.Path.{_≡_, refl, ap, _∙_}
 use mathlib.Core.List.{List, [], _∷_, _++_, append-nil, append-assoc}
 use Prim.Native.Nat.{ℕ, _+_, _≤_, _<_}
+use native.Mathlib.Nat.{zero-add}
 use native.Mathlib.Omega.{arith}
-use lib.ListN.{length, set, length-append}
-use lib.Seq.{length-sets}
+use lib.ListN.{length, drop, set, length-append}
+use lib.Seq.{length-sets, sets-eq}
 use Rattle.lists.proofs.Stores.{sets-append}
-use Rattle.text.specs.Written.{Wrote}
+use Rattle.text.specs.Written.{Wrote, Printed}
 
 -- Writing keeps the length.
 pub wrote-length : {b t a : List ℕ} {at r : ℕ} → Wrote b at t a r → length a ≡ length b
@@ -27,6 +28,16 @@ wrote-text {b} {t} {a} {u} {e} {at} {r} {q} v w = record {
 -- A byte stored is a text of one byte written.
 pub wrote-byte : (b : List ℕ) (at x : ℕ) → Wrote b at (x ∷ []) (set b at x) (at + 1)
 wrote-byte b at x = record { offset = refl; bytes = refl }
+
+-- A text written from the start on is printed.
+pub wrote-printed : {b t a : List ℕ} {r : ℕ} → length t ≤ length b → Wrote b 0 t a r → Printed t b a r
+wrote-printed {b} {t} h w =
+    let room : 0 + length t ≤ length b = omega arith in
+    record { count = omega (arith, w .offset); bytes = w .bytes ∙ sets-eq t b 0 room ∙ ap (λ (n : ℕ). t ++ drop n b) (zero-add (length t)) }
+
+-- What is printed ends within the bytes.
+pub printed-within : {t b a : List ℕ} {r : ℕ} → Printed t b a r → r ≤ length a
+printed-within p = omega (arith, p .count, simp length-append at (ap length (p .bytes)))
 
 -- Of the text t to be written into b from the offset at on, u is left: b has become a, and r is the offset after what is written.
 pub record Left (b : List ℕ) (at : ℕ) (t a : List ℕ) (r : ℕ) (u : List ℕ) : Type 0 where

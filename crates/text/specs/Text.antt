@@ -1,16 +1,19 @@
--- The printed lines of a list, as lists of bytes.
+-- What is printed of a list, as lists of bytes.
 --
 --   decimal n        the decimal digits of n, without leading zeros
 --   numbers l        the numbers of l in decimal with single spaces between them; a hyphen if there are none
 --   lineOf c s       the line of the cut c and its near side s: cables, space, bar, space, points
 --   countLine n      the line that says how many cuts there are: the word cuts and n
 --   refusalLine n    the line that says why there is no list: the word refused and n
---   maxLine          how long a line can be
+--   rowLines cuts sides     the lines of the rows, each cut beside its side, as far as there are both
+--   listText cuts sides     a whole list: the line of the count, then the lines of the rows
+--   maxLine, maxRows, maxText     how long a row's line can be, how many rows are printed, and how long their list can be
 use mathlib.Core.Bool.{true, false}
 use mathlib.Core.List.{List, [], _∷_, _++_}
-use Prim.Native.Nat.{ℕ, zero, suc, _+_, _/_, _%_}
+use Prim.Native.Nat.{ℕ, zero, suc, _+_, _*_, _/_, _%_}
 use Prim.Native.Char.{code}
 use lib.Dec.{ltb}
+use lib.ListN.{length}
 use Rattle.bitset.specs.Members.{members}
 use Rattle.text.specs.Ascii.{bytes}
 
@@ -50,6 +53,21 @@ countLine n = wordLine (bytes "cuts") n
 abbrev pub refusalLine : ℕ → List ℕ
 refusalLine n = wordLine (bytes "refused") n
 
+unfoldable pub rowLines : List ℕ → List ℕ → List ℕ
+rowLines [] sides = []
+rowLines (c ∷ cuts) [] = []
+rowLines (c ∷ cuts) (s ∷ sides) = lineOf c s ++ rowLines cuts sides
+
+unfoldable pub listText : List ℕ → List ℕ → List ℕ
+listText cuts sides = countLine (length cuts) ++ rowLines cuts sides
+
 -- All cables take 181 bytes, all points 85, the bar with its spaces 3 and the end of the line 1.
 abbrev pub maxLine : ℕ
 maxLine = 270
+
+abbrev pub maxRows : ℕ
+maxRows = 2048
+
+-- So many lines of rows, and the line of the count, at most 29 bytes: 552989.
+abbrev pub maxText : ℕ
+maxText = maxRows * maxLine + 29

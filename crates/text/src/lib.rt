@@ -1,15 +1,18 @@
-// The printed lines of a list, as bytes in lent memory. Every contract speaks of the bytes (specs/Text.antt, specs/Written.antt).
+// What is printed of a list, as bytes in lent memory. Every contract speaks of the bytes (specs/Text.antt, specs/Written.antt).
 use edge_set::EdgeSet;
 use node_set::NodeSet;
 ghost use mathlib.Core.Path.{_≡_};
-ghost use Prim.Native.Nat.{_+_, _≤_, _<_};
-ghost use lib.ListN.{length};
+ghost use Prim.Native.Nat.{_+_, _≤_, min};
+ghost use lib.ListN.{length, take};
 ghost use Rattle.bitset.specs.Members.{members};
-ghost use Rattle.text.specs.Text.{decimal, spaced, numbers, lineOf, wordLine, countLine, refusalLine};
-ghost use Rattle.text.specs.Written.{withText, offsetAfter, Wrote};
+ghost use Rattle.text.specs.Text.{decimal, spaced, numbers, lineOf, wordLine, refusalLine, rowLines, listText, maxRows};
+ghost use Rattle.text.specs.Written.{Wrote, Printed};
 
-// No line is longer (proofs/Bound.antt): that of all 64 edges and all 32 nodes has so many bytes.
-pub const MAX_LINE: usize = 270;
+// No more rows are printed.
+pub const MAX_ROWS: usize = 2048;
+
+// No list of so many rows is longer (proofs/Bound.antt): a page of so many bytes has room for each.
+pub const MAX_TEXT: usize = 552_989;
 
 // Writes the text from the offset `at` on.
 fn write_text(out: &mut [u8], at: usize, text: &[u8]) -> usize
@@ -84,15 +87,29 @@ fn write_nodes(out: &mut [u8], at: usize, set: NodeSet) -> usize
     write_edges(out, at, edges_numbered_as(set))
 }
 
-// Writes the line of a cut and its near side from the start on.
-fn write_row(out: &mut [u8], cut: EdgeSet, side: NodeSet) -> usize
-    requires { ⌜ length (lineOf (cut .0) (side .0)) ≤ length (now out) ⌝ }
-    ensures { λ r. ⌜ Wrote (now (out .entry)) 0 (lineOf (cut .0) (side .0)) (now (out .exit)) r ⌝ }
+// Writes the line of a cut and its near side from the offset `at` on.
+fn write_row(out: &mut [u8], at: usize, cut: EdgeSet, side: NodeSet) -> usize
+    requires { ⌜ at + length (lineOf (cut .0) (side .0)) ≤ length (now out) ⌝ }
+    ensures { λ r. ⌜ Wrote (now (out .entry)) at (lineOf (cut .0) (side .0)) (now (out .exit)) r ⌝ }
 {
-    let edges_end = write_edges(out, 0, cut);
+    let edges_end = write_edges(out, at, cut);
     let bar_end = write_text(out, edges_end, b" | ");
     let nodes_end = write_nodes(out, bar_end, side);
     write_text(out, nodes_end, b"\n")
+}
+
+// Writes the lines of the first `count` rows from the offset `at` on.
+fn write_rows(out: &mut [u8], at: usize, cuts: &[u64], sides: &[u32], count: usize) -> usize
+    requires { ⌜ (count ≤ length (now cuts)) × (count ≤ length (now sides)) × (at + length (rowLines (take count (now cuts)) (take count (now sides))) ≤ length (now out)) ⌝ }
+    ensures { λ r. ⌜ Wrote (now (out .entry)) at (rowLines (take count (now (cuts .entry))) (take count (now (sides .entry)))) (now (out .exit)) r ⌝ }
+{
+    let mut next = at;
+    let mut row = 0;
+    while row < count {
+        next = write_row(out, next, EdgeSet(cuts[row]), NodeSet(sides[row]));
+        row += 1;
+    }
+    next
 }
 
 // Writes the line of a word and a number from the start on.
@@ -106,54 +123,30 @@ fn write_word(out: &mut [u8], word: &[u8], n: usize) -> usize
     write_text(out, number_end, b"\n")
 }
 
-// Puts the text at the offset `at` if it fits, and gives the offset after it; else leaves all as it is and gives `at`.
-fn put_text(out: &mut [u8], at: usize, text: &[u8]) -> usize
-    ensures offset { λ r. ⌜ r ≡ offsetAfter (now (out .entry)) at (now (text .entry)) ⌝ }
-    ensures bytes { λ _. ⌜ now (out .exit) ≡ withText (now (out .entry)) at (now (text .entry)) ⌝ }
+// The count, or the number of all rows if that comes first.
+fn rows_up_to(count: usize) -> usize
+    ensures { λ r. ⌜ r ≡ min count maxRows ⌝ }
 {
-    if out.len() < at {
-        return at;
-    }
-    if out.len() - at < text.len() {
-        return at;
-    }
-    write_text(out, at, text)
+    if count < MAX_ROWS { count } else { MAX_ROWS }
 }
 
-// Puts the line of a short word and a number.
-fn put_word(out: &mut [u8], at: usize, word: &[u8], n: usize) -> usize
-    requires { ⌜ length (now word) < 8 ⌝ }
-    ensures offset { λ r. ⌜ r ≡ offsetAfter (now (out .entry)) at (wordLine (now (word .entry)) n) ⌝ }
-    ensures bytes { λ _. ⌜ now (out .exit) ≡ withText (now (out .entry)) at (wordLine (now (word .entry)) n) ⌝ }
+// Makes the list of the first `count` rows at the start of the page, and gives its length.
+pub fn put_list(
+    page: &mut [u8; MAX_TEXT],
+    cuts: &[u64; MAX_ROWS],
+    sides: &[u32; MAX_ROWS],
+    count: usize,
+) -> usize
+    ensures { λ r. ⌜ Printed (listText (take count (now (cuts .entry))) (take count (now (sides .entry)))) (now (page .entry)) (now (page .exit)) r ⌝ }
 {
-    let mut line = [0u8; MAX_LINE];
-    let end = write_word(&mut line, word, n);
-    put_text(out, at, &line[..end])
+    let rows = rows_up_to(count);
+    let count_end = write_word(page, b"cuts", rows);
+    write_rows(page, count_end, cuts, sides, rows)
 }
 
-// Puts the line of a cut and its near side at the offset `at` if it fits, and gives the offset after it; else leaves all as it is
-// and gives `at`.
-pub fn put_row(out: &mut [u8], at: usize, cut: EdgeSet, side: NodeSet) -> usize
-    ensures offset { λ r. ⌜ r ≡ offsetAfter (now (out .entry)) at (lineOf (cut .0) (side .0)) ⌝ }
-    ensures bytes { λ _. ⌜ now (out .exit) ≡ withText (now (out .entry)) at (lineOf (cut .0) (side .0)) ⌝ }
+// Makes the line that says by its number why there is no list, likewise.
+pub fn put_refusal(page: &mut [u8; MAX_TEXT], refusal: u8) -> usize
+    ensures { λ r. ⌜ Printed (refusalLine refusal) (now (page .entry)) (now (page .exit)) r ⌝ }
 {
-    let mut line = [0u8; MAX_LINE];
-    let end = write_row(&mut line, cut, side);
-    put_text(out, at, &line[..end])
-}
-
-// Puts the line that says how many cuts there are, likewise.
-pub fn put_count(out: &mut [u8], at: usize, count: usize) -> usize
-    ensures offset { λ r. ⌜ r ≡ offsetAfter (now (out .entry)) at (countLine count) ⌝ }
-    ensures bytes { λ _. ⌜ now (out .exit) ≡ withText (now (out .entry)) at (countLine count) ⌝ }
-{
-    put_word(out, at, b"cuts", count)
-}
-
-// Puts the line that says by its number why there is no list, likewise.
-pub fn put_refusal(out: &mut [u8], at: usize, refusal: u8) -> usize
-    ensures offset { λ r. ⌜ r ≡ offsetAfter (now (out .entry)) at (refusalLine refusal) ⌝ }
-    ensures bytes { λ _. ⌜ now (out .exit) ≡ withText (now (out .entry)) at (refusalLine refusal) ⌝ }
-{
-    put_word(out, at, b"refused", refusal as usize)
+    write_word(page, b"refused", refusal as usize)
 }

@@ -1,0 +1,25 @@
+-- What the list program prints (the paper's section "The list program").
+--
+--   listReport N     of a network: its list, or the refusal 12 if it has more minimal cuts than rows are lent
+--   reportOf s       of the bytes s: the reader's refusal, or the report of the network read
+use mathlib.Core.Bool.{true, false}
+use mathlib.Core.List.{List}
+use Prim.Native.Nat.{ℕ, zero, suc}
+use lib.Dec.{ltb}
+use lib.ListN.{length}
+use Rattle.network.specs.declared.Network.{Network}
+use Rattle.codec.specs.Format.{decodeOf}
+use Rattle.listing.specs.List.{mincuts, sourceSides}
+use Rattle.text.specs.Text.{refusalLine, listText, maxRows}
+
+unfoldable pub listReport : Network → List ℕ
+listReport N =
+    elim (ltb maxRows (length (mincuts N))) [ true ↦ refusalLine 12 | false ↦ listText (mincuts N) (sourceSides N) ]
+
+-- By the reader's refusal, 0 if there is none.
+abbrev pub reportBy : ℕ → Network → List ℕ
+reportBy zero N = listReport N
+reportBy (suc r) N = refusalLine (suc r)
+
+unfoldable pub reportOf : List ℕ → List ℕ
+reportOf s = reportBy (decodeOf s .refusal) (decodeOf s .network)
