@@ -10,7 +10,7 @@ use mathlib.Core.List.{List}
 use mathlib.Core.Path.{_≡_}
 use Prim.Native.Nat.{ℕ}
 use Rattle.network.specs.declared.Network.{Network}
-use Rattle.codec.specs.Format.{decodeOf, encodedBy, bytesAfter}
+use Rattle.format.specs.Format.{decodeOf, encodedBy, bytesAfter}
 use Rattle.reach.specs.Answers.{relevantOf, verdictOf, refusalNumber, verdictNumber}
 use Rattle.listing.specs.List.{listedBy, cutRowsAfter, sideRowsAfter}
 

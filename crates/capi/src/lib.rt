@@ -23,7 +23,7 @@ pub extern "C" fn cutlist_decode(
     ensures { λ r. ⌜ Read (now (plan .entry)) r
         (assembled (now (nodes .exit)) (now (source .exit)) (now (sink .exit)) (now (present .exit)) (now (first .exit)) (now (second .exit))) ⌝ }
 {
-    let decoded = codec::decode(plan);
+    let decoded = reader::decode(plan);
     let read = decoded.network;
     let edges = read.present;
     let firsts = read.first;
@@ -89,7 +89,7 @@ pub extern "C" fn cutlist_encode(
 ) -> u8
     ensures { λ r. ⌜ Written (assembled nodes source sink present (now (first .entry)) (now (second .entry))) (now (plan .entry)) r (now (count .exit)) (now (plan .exit)) ⌝ }
 {
-    let encoded = codec::encode(assemble(nodes, source, sink, present, first, second), plan);
+    let encoded = writer::encode(assemble(nodes, source, sink, present, first, second), plan);
     *count = encoded.count;
     encoded.refusal
 }

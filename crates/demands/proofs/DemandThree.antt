@@ -6,8 +6,8 @@ use mathlib.Core.Logic.{_↔_, Iff·trans}
 use Prim.Native.Nat.{ℕ}
 use Rattle.network.specs.declared.Network.{Network}
 use Rattle.network.specs.Record.{Stored}
-use Rattle.codec.specs.Format.{decodeOf}
-use Rattle.codec.proofs.Reading.{accepts, decode-plan}
+use Rattle.format.specs.Format.{decodeOf}
+use Rattle.format.proofs.Reading.{accepts, decode-plan}
 use Rattle.graph.specs.Paths.{SameMinpaths}
 use Rattle.cuts.proofs.Lists.{lists-equal}
 use Rattle.listing.specs.List.{mincuts, listedBy, cutRowsAfter}

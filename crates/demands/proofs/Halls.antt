@@ -10,8 +10,8 @@ use Rattle.bitset.specs.Members.{has, insert, _∖_, size, subsets, membersFrom
 use Rattle.bitset.proofs.Tests.{T-and, T-eqb}
 use Rattle.network.specs.declared.Network.{Network}
 use Rattle.network.specs.Record.{_when_, _then_, sizeFault, pairFault, bare, withEdge}
-use Rattle.codec.specs.Format.{numberFault, sizeRefusal, terminalsRefusal, edgeRefusal, endRefusal, sizeStep, terminalsStep, edgeStep, edges, afterTerminals, afterSize, decodeOf}
-use Rattle.codec.proofs.Reading.{accepts, decode-plan}
+use Rattle.format.specs.Format.{numberFault, sizeRefusal, terminalsRefusal, edgeRefusal, endRefusal, sizeStep, terminalsStep, edgeStep, edges, afterTerminals, afterSize, decodeOf}
+use Rattle.format.proofs.Reading.{accepts, decode-plan}
 use Rattle.rows.specs.Permutation.{countIf}
 use Rattle.rows.specs.Widths.{tabulate, widthsOf}
 use Rattle.graph.specs.Cuts.{only, Cut, Mincut}

@@ -17,7 +17,7 @@ use Prim.Native.Nat.{ℕ, _-_}
 use lib.Dec.{T, eqb}
 use lib.ListN.{length, replicate}
 use Rattle.network.specs.declared.Network.{Network}
-use Rattle.codec.specs.Format.{decodeOf}
+use Rattle.format.specs.Format.{decodeOf}
 use Rattle.rows.specs.Widths.{widthsOf}
 use Rattle.graph.specs.Cuts.{Cut, Mincut}
 use Rattle.graph.specs.CutTests.{every, cutTest, mincutTest}

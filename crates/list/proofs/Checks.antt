@@ -4,14 +4,14 @@ use mathlib.Core.Path.{_≡_, refl}
 use mathlib.Core.List.{[], _∷_}
 use Rattle.bitset.specs.Members.{has, insert, _∖_, subsets, membersFrom}
 use Rattle.network.specs.Record.{_when_, _then_, sizeFault, pairFault, bare, withEdge}
-use Rattle.codec.specs.Format.{numberFault, sizeRefusal, terminalsRefusal, edgeRefusal, endRefusal, sizeStep, terminalsStep, edgeStep, edges, afterTerminals, afterSize, decodeOf}
+use Rattle.format.specs.Format.{numberFault, sizeRefusal, terminalsRefusal, edgeRefusal, endRefusal, sizeStep, terminalsStep, edgeStep, edges, afterTerminals, afterSize, decodeOf}
+use Rattle.text.specs.Ascii.{bytes}
+use Rattle.text.specs.Text.{digits, decimal, spaced, numbers, lineOf, wordLine, rowLines, listText}
 use Rattle.graph.specs.Cuts.{only}
 use Rattle.graph.specs.Reach.{addIf, across, roundOver, rounds, reachOf}
 use Rattle.graph.specs.CutTests.{severed, every, cutTest, allNeeded, mincutTest}
 use Rattle.graph.specs.Relevant.{chosen, edgesAt, edgesWithin, past, pastAll, relevantNodes, relevantEdges, sourceSideOf}
 use Rattle.listing.specs.List.{passing, mincuts}
-use Rattle.text.specs.Ascii.{bytes}
-use Rattle.text.specs.Text.{digits, decimal, spaced, numbers, lineOf, wordLine, rowLines, listText}
 use Rattle.list.specs.Report.{listReport, reportOf}
 
 pub bridge :

@@ -10,15 +10,15 @@ use lib.ListN.{length, take, replicate, length-map, length-replicate}
 use lib.Seq.{take-at}
 use Rattle.network.specs.declared.Network.{Network}
 use Rattle.network.specs.Record.{unlessRefused, faultOf}
+use Rattle.format.specs.declared.Decoded.{Decoded}
+use Rattle.format.specs.Format.{decodeOf}
+use Rattle.format.proofs.Reading.{decode-plan}
+use Rattle.format.proofs.Prefix.{decode-prefix}
+use Rattle.text.specs.Text.{refusalLine, listText, maxRows}
 use Rattle.graph.specs.Relevant.{sourceSideOf}
-use Rattle.codec.specs.declared.Decoded.{Decoded}
-use Rattle.codec.specs.Format.{decodeOf}
-use Rattle.codec.proofs.Reading.{decode-plan}
-use Rattle.codec.proofs.Prefix.{decode-prefix}
 use Rattle.listing.specs.declared.Listed.{Listed}
 use Rattle.listing.specs.List.{mincuts, sourceSides, onto, listRefusal, listAnswer, listedBy, cutRowsAfter, sideRowsAfter}
 use Rattle.listing.proofs.Refusals.{refusal-outnumbered, refusal-none}
-use Rattle.text.specs.Text.{refusalLine, listText, maxRows}
 use Rattle.list.specs.Report.{listReport, reportBy, reportOf}
 
 -- ---- the list call

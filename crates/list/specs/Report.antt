@@ -8,9 +8,9 @@ use Prim.Native.Nat.{ℕ, zero, suc}
 use lib.Dec.{ltb}
 use lib.ListN.{length}
 use Rattle.network.specs.declared.Network.{Network}
-use Rattle.codec.specs.Format.{decodeOf}
-use Rattle.listing.specs.List.{mincuts, sourceSides}
+use Rattle.format.specs.Format.{decodeOf}
 use Rattle.text.specs.Text.{refusalLine, listText, maxRows}
+use Rattle.listing.specs.List.{mincuts, sourceSides}
 
 unfoldable pub listReport : Network → List ℕ
 listReport N =

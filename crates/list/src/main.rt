@@ -13,7 +13,7 @@ ghost use Rattle.list.specs.Report.{reportOf};
 fn report(plan: &[u8], page: &mut [u8; MAX_TEXT]) -> usize
     ensures { λ r. ⌜ Printed (reportOf (now (plan .entry))) (now (page .entry)) (now (page .exit)) r ⌝ }
 {
-    let decoded = codec::decode(plan);
+    let decoded = reader::decode(plan);
     if decoded.refusal != 0 {
         return text::put_refusal(page, decoded.refusal);
     }

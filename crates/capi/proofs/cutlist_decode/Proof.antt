@@ -1,7 +1,7 @@
 -- `cutlist_decode` meets its contract: number and record are those that the reader ensures.
 -- Assumes nothing.
 use mathlib.Core.Path.{ap}
-use Rattle.codec.specs.declared.Decoded.{Decoded}
+use Rattle.format.specs.declared.Decoded.{Decoded}
 use borrow.Author.Needs.{needs}
 use Rattle.capi.proofs.cutlist_decode.Statement.{statement}
 use Rattle.capi.proofs.cutlist_decode.Tie as tie

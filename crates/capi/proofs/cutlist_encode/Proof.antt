@@ -2,8 +2,8 @@
 -- Assumes nothing.
 use mathlib.Core.Path.{ap, _∙_}
 use Rattle.network.specs.declared.Network.{Network}
-use Rattle.codec.specs.declared.Encoded.{Encoded}
-use Rattle.codec.specs.Format.{encodedBy, bytesAfter}
+use Rattle.format.specs.declared.Encoded.{Encoded}
+use Rattle.format.specs.Format.{encodedBy, bytesAfter}
 use borrow.Author.Needs.{needs}
 use Rattle.capi.proofs.cutlist_encode.Statement.{statement}
 use Rattle.capi.proofs.cutlist_encode.Tie as tie

@@ -1,2 +1,0 @@
--- The definitions that the contracts of `codec` cite.
-pub mod Format

@@ -1,0 +1,218 @@
+-- What the reader accepts: the bytes are the record's own, and the record passes its test.
+-- Assumes nothing.
+use mathlib.Core.Bool.{true, false}
+use mathlib.Core.List.{List, [], _∷_, _++_, flatMap}
+use mathlib.Core.Path.{_≡_, refl, ap, ap₂, sym, subst, _∙_}
+use Prim.Native.Nat.{ℕ, zero, suc, _+_, _-_, _≤_, _<_, zero-le}
+use native.Mathlib.Nat.{le-refl}
+use native.Mathlib.Decide.{ℕ-discrete}
+use native.Mathlib.Omega.{arith}
+use lib.ListN.{length, drop, getD-replicate}
+use Rattle.bitset.proofs.Members.{has-zero}
+use Rattle.network.specs.declared.Network.{Network}
+use Rattle.network.specs.Record.{Stored, Slot, slot, rising, slotFault, endFault, sizeFault, absentFault, faultOf, bare, withEdge, hasEdge, firstEnd, secondEnd, noNetwork}
+use Rattle.network.proofs.Slots.{empty, slotFault-of, withEdge-same, withEdge-other, withEdge-stored, accepted-none}
+use Rattle.format.specs.declared.Decoded.{Decoded}
+use Rattle.format.specs.Format.{edges, accept, refuse, edgeCommand, encodeOf, decodeOf, afterSize, afterTerminals, terminalsStep}
+use Rattle.format.proofs.Steps.{EdgeView, edge, end, edge-view, SizeView, size, size-view, TerminalsView, terminals, terminals-view}
+use Rattle.format.proofs.Walk.{edges-edge, edges-end, edges-refused}
+use Rattle.format.proofs.Commands.{command-of, commands-skip}
+
+-- The slots of N from `next` on are empty.
+abbrev EmptyFrom : Network → ℕ → Type 0
+EmptyFrom N next = (j : ℕ) → next ≤ j → j < 64 → slot N j ≡ empty
+
+-- What it means that M was read into N from the bytes s, which held the slots from `next` on, `left` of them.
+record Read (N M : Network) (next left : ℕ) (s : List ℕ) : Type 0 where
+  bytes : s ≡ flatMap (edgeCommand M) (rising next left) ++ 0x45 ∷ []
+  nodes : M .nodes ≡ N .nodes
+  source : M .source ≡ N .source
+  sink : M .sink ≡ N .sink
+  before : (j : ℕ) → j < next → slot M j ≡ slot N j
+  stored : Stored M
+  sound : ((j : ℕ) → j < 64 → slotFault N j ≡ 0) → (j : ℕ) → j < 64 → slotFault M j ≡ 0
+
+-- At the end nothing more is read.
+read-end : (N : Network) (next left : ℕ) → next + left ≡ 64 → Stored N → EmptyFrom N next → Read N N next left (0x45 ∷ [])
+unfolding flatMap rising
+read-end N next left e stored none = record {
+  bytes = ap (λ c. c ++ 0x45 ∷ []) (sym (commands-skip N next left 64 0 (omega arith) (omega arith) (λ j h l. ap (λ (x : Slot). x .0) (none j h l))));
+  nodes = refl;
+  source = refl;
+  sink = refl;
+  before = λ j l. refl;
+  stored = stored;
+  sound = λ z. z;
+}
+
+-- An edge that is put in leaves the later slots empty.
+empty-later : (N : Network) (stored : Stored N) (next k a b : ℕ) → next ≤ k → k < 64 → EmptyFrom N next → EmptyFrom (withEdge N k a b) (suc k)
+empty-later N stored next k a b h l none j p q = withEdge-other N stored k a b l j (λ e. omega arith) ∙ none j (omega arith) q
+
+-- An edge is read, and then the rest.
+read-edge : (N M : Network) (next left k a b left′ : ℕ) (s : List ℕ) → next + left ≡ 64 → suc k + left′ ≡ 64 → Stored N → EmptyFrom N next
+    → next ≤ k → k < 64 → endFault (N .nodes) a b ≡ 0 → Read (withEdge N k a b) M (suc k) left′ s
+    → Read N M next left (0x43 ∷ k ∷ a ∷ b ∷ s)
+unfolding flatMap rising withEdge slotFault
+read-edge N M next left k a b left′ s e e′ stored none h l f r =
+    let N′ : Network = withEdge N k a b in
+    let here : slot M k ≡ (true, a, b) = r .before k (omega arith) ∙ withEdge-same N stored k a b l in
+    let between : (j : ℕ) → next ≤ j → j < k → hasEdge M j ≡ false =
+    λ j p q. ap (λ (x : Slot). x .0) (r .before j (omega arith) ∙ withEdge-other N stored k a b l j (λ e. omega arith) ∙ none j p (omega arith)) in
+    record {
+      bytes =
+          ap (λ c. 0x43 ∷ k ∷ a ∷ b ∷ c) (r .bytes)
+          ∙ ap (λ c. (c ++ flatMap (edgeCommand M) (rising (suc k) left′)) ++ 0x45 ∷ []) (sym (command-of M k here))
+          ∙ ap (λ c. c ++ 0x45 ∷ []) (sym (commands-skip M next left k (suc left′) h (omega arith) between));
+      nodes = r .nodes;
+      source = r .source;
+      sink = r .sink;
+      before = λ j p. r .before j (omega arith) ∙ withEdge-other N stored k a b l j (λ e. omega arith);
+      stored = r .stored;
+      sound = λ z. r .sound (λ j p. put z j p (ℕ-discrete j k));
+    }
+  where
+    put : ((j : ℕ) → j < 64 → slotFault N j ≡ 0) → (j : ℕ) → j < 64 → Dec (j ≡ k) → slotFault (withEdge N k a b) j ≡ 0
+    put z j p (yes q) = ap (slotFault (withEdge N k a b)) q ∙ slotFault-of (withEdge N k a b) k (withEdge-same N stored k a b l) ∙ f
+    put z j p (no d) = slotFault-of (withEdge N k a b) j (withEdge-other N stored k a b l j d) ∙ z j p
+
+-- An answer that is accepted is no refusal, and tells its record.
+accept-network : {N M : Network} → accept N ≡ accept M → N ≡ M
+accept-network e = ap (λ (d : Decoded). d .network) e
+
+not-refused : {M : Network} {r : ℕ} → 0 < r → refuse r ≡ accept M → ⊥
+not-refused {M} {r} p e = let z : r ≡ 0 = ap (λ (d : Decoded). d .refusal) e in omega arith
+
+-- Whatever the walk accepts in so many turns was read from its own bytes.
+abbrev Reads : ℕ → Network → Type 0
+Reads turns M =
+    (N : Network) (next left : ℕ) (s : List ℕ) → length s ≤ turns → next + left ≡ 64 → Stored N → EmptyFrom N next
+    → edges turns N next s ≡ accept M → Read N M next left s
+
+reads-more : (turns : ℕ) (M : Network) → Reads turns M → Reads (suc turns) M
+reads-more turns M before N next left s t e stored none q = go (edge-view (N .nodes) next s)
+  where
+    go : EdgeView (N .nodes) next s → Read N M next left s
+    go (edge k a b rest step p h l f) =
+        let shorter : length s ≡ suc (suc (suc (suc (length rest)))) = ap length p in
+        let later : edges turns (withEdge N k a b) (suc k) rest ≡ accept M =
+        sym (edges-edge turns N next s step ∙ ap (λ x. edges turns (withEdge N k a b) (suc k) (drop 4 x)) p) ∙ q in
+        rw p (read-edge N M next left k a b (63 - k) rest e (omega arith) stored none h l f
+        (before (withEdge N k a b) (suc k) (63 - k) rest (omega arith) (omega arith) (withEdge-stored N stored k a b l)
+        (empty-later N stored next k a b h l none) later))
+    go (end step p) =
+        rw p (subst (λ (x : Network). Read N x next left (0x45 ∷ [])) (accept-network (sym (edges-end turns N next s step) ∙ q))
+        (read-end N next left e stored none))
+    go (EdgeView.refused r step p b) = absurd (not-refused p (sym (edges-refused turns N next s step) ∙ q))
+
+edges-read : (turns : ℕ) (M : Network) → Reads turns M
+unfolding edges
+edges-read zero M N next left s t e stored none q = absurd (not-refused (omega arith) q)
+edges-read (suc turns) M N next left s t e stored none q =
+    reads-more turns M (λ N′ next′ left′ s′. edges-read turns M N′ next′ left′ s′) N next left s t e stored none q
+
+-- ---- the whole plan
+
+-- A network without edges has empty slots, and none of them has a fault.
+bare-empty : (n s t j : ℕ) → j < 64 → slot (bare n s t) j ≡ empty
+unfolding bare
+bare-empty n s t j l =
+    let p : hasEdge (bare n s t) j ≡ false = has-zero j in
+    let f : firstEnd (bare n s t) j ≡ 0 = getD-replicate 64 j 0 0 l in
+    let g : secondEnd (bare n s t) j ≡ 0 = getD-replicate 64 j 0 0 l in
+    λ i. (p i, f i, g i)
+
+bare-stored : (n s t : ℕ) → Stored (bare n s t)
+unfolding bare
+bare-stored n s t = record { firsts = refl; seconds = refl; edges = omega arith }
+
+bare-sound : (n s t j : ℕ) → j < 64 → slotFault (bare n s t) j ≡ 0
+unfolding absentFault Rattle.network.specs.Record._when_
+bare-sound n s t j l = slotFault-of (bare n s t) j (bare-empty n s t j l)
+
+-- What a plan's bytes say of the record that was read from them.
+pub record Plan (s : List ℕ) (N : Network) : Type 0 where
+  pub bytes : encodeOf N ≡ s
+  pub accepted : faultOf N ≡ 0
+  pub stored : Stored N
+
+terminals-read : (n : ℕ) (s : List ℕ) (N : Network) → sizeFault n ≡ 0 → afterTerminals n (terminalsStep n s) (drop 3 s) ≡ accept N
+    → Plan (0x50 ∷ n ∷ s) N
+unfolding afterTerminals encodeOf bare
+terminals-read n s N z q = go (terminals-view n s)
+  where
+    go : TerminalsView n s → Plan (0x50 ∷ n ∷ s) N
+    go (terminals a b rest step p f) =
+        let here : edges (length rest) (bare n a b) 0 rest ≡ accept N =
+        sym (ap₂ (λ x y. afterTerminals n x (drop 3 y)) step p) ∙ q in
+        let r = edges-read (length rest) N (bare n a b) 0 64 rest (le-refl (length rest)) refl (bare-stored n a b) (λ j h l. bare-empty n a b j l) here in
+        record {
+          bytes =
+              ap₂ (λ x y. 0x50 ∷ x ∷ 0x53 ∷ N .source ∷ N .sink ∷ y) (r .nodes) (sym (r .bytes))
+              ∙ ap₂ (λ x y. 0x50 ∷ n ∷ 0x53 ∷ x ∷ y ∷ rest) (r .source) (r .sink)
+              ∙ ap (λ x. 0x50 ∷ n ∷ x) (sym p);
+          accepted =
+              accepted-none N (record {
+                size = rw (r .nodes) z;
+                terminals = rw (r .nodes, r .source, r .sink) f;
+                slot-none = r .sound (λ j l. bare-sound n a b j l);
+              });
+          stored = r .stored;
+        }
+    go (TerminalsView.refused r step p b) =
+        absurd (not-refused p (sym (ap (λ x. afterTerminals n x (drop 3 s)) step) ∙ q))
+
+-- Bytes that are accepted are the bytes of the record read, and it passes the record test.
+pub decode-plan : (s : List ℕ) (N : Network) → decodeOf s ≡ accept N → Plan s N
+unfolding decodeOf afterSize
+decode-plan s N q = go (size-view s)
+  where
+    go : SizeView s → Plan s N
+    go (size n rest step p f) =
+        rw p (terminals-read n rest N f (sym (ap₂ (λ x y. afterSize x (drop 2 y)) step p) ∙ q))
+    go (SizeView.refused r step p b) = absurd (not-refused p (sym (ap (λ x. afterSize x (drop 2 s)) step) ∙ q))
+
+-- The refusal's number alone says whether the bytes are accepted.
+pub accepts : (s : List ℕ) → decodeOf s .refusal ≡ 0 → decodeOf s ≡ accept (decodeOf s .network)
+accepts s e = λ i. record { refusal = e i; network = decodeOf s .network }
+
+-- ---- refusals
+
+-- A refusal is at most 10, and beside it stands the all-zero record.
+pub record Answer (d : Decoded) : Type 0 where
+  pub bounded : d .refusal ≤ 10
+  pub zeroed : (d .refusal ≡ 0 → ⊥) → d .network ≡ noNetwork
+
+accept-answer : (N : Network) → Answer (accept N)
+accept-answer N = record { bounded = zero-le; zeroed = λ h. absurd (h refl) }
+
+refuse-answer : (r : ℕ) → r ≤ 10 → Answer (refuse r)
+refuse-answer r b = record { bounded = b; zeroed = λ h. refl }
+
+edges-answer : (turns : ℕ) (N : Network) (next : ℕ) (s : List ℕ) → Answer (edges turns N next s)
+unfolding edges
+edges-answer zero N next s = refuse-answer 1 (omega arith)
+edges-answer (suc turns) N next s =
+    go (λ k a b. edges-answer turns (withEdge N k a b) (suc k) (drop 4 s)) (edge-view (N .nodes) next s)
+  where
+    go : ((k a b : ℕ) → Answer (edges turns (withEdge N k a b) (suc k) (drop 4 s))) → EdgeView (N .nodes) next s
+        → Answer (edges (suc turns) N next s)
+    go later (edge k a b rest step p h l f) = subst Answer (sym (edges-edge turns N next s step)) (later k a b)
+    go later (end step p) = subst Answer (sym (edges-end turns N next s step)) (accept-answer N)
+    go later (EdgeView.refused r step p b) = subst Answer (sym (edges-refused turns N next s step)) (refuse-answer r b)
+
+terminals-answer : (n : ℕ) (s : List ℕ) → Answer (afterTerminals n (terminalsStep n s) (drop 3 s))
+unfolding afterTerminals
+terminals-answer n s = go (terminals-view n s)
+  where
+    go : TerminalsView n s → Answer (afterTerminals n (terminalsStep n s) (drop 3 s))
+    go (terminals a b rest step p f) = rw step (edges-answer (length (drop 3 s)) (bare n a b) 0 (drop 3 s))
+    go (TerminalsView.refused r step p b) = rw step (refuse-answer r b)
+
+pub decode-answer : (s : List ℕ) → Answer (decodeOf s)
+unfolding decodeOf afterSize
+decode-answer s = go (size-view s)
+  where
+    go : SizeView s → Answer (decodeOf s)
+    go (size n rest step p f) = rw step (terminals-answer n (drop 2 s))
+    go (SizeView.refused r step p b) = rw step (refuse-answer r b)

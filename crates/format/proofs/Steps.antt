@@ -1,0 +1,185 @@
+-- What each answer of a step tells of the bytes, and which bytes give it.
+-- Assumes nothing.
+use mathlib.Core.Bool.{Bool, true, false, not}
+use mathlib.Core.List.{List, [], _∷_}
+use mathlib.Core.Path.{_≡_, refl, ap, _∙_}
+use Prim.Native.Nat.{ℕ, zero, suc, _≤_, _<_}
+use native.Mathlib.Omega.{arith}
+use lib.Dec.{ltb, eqb}
+use lib.ListN.{length, drop}
+use borrow.Author.Tests.{le-ltb, eq-eqb, ltb-false, eqb-true, not-false}
+use Rattle.network.specs.Record.{_when_, _then_, sizeFault, pairFault, terminalFault, endFault}
+use Rattle.network.proofs.Refusals.{then-none, none-then, when-none, none-when, then-bounded, when-bounded}
+use Rattle.format.specs.declared.Step.{Step}
+use Rattle.format.specs.Format.{at, missing, unfit, numberFault, sizeRefusal, terminalsRefusal, edgeRefusal, endRefusal, sizeStep, terminalsStep, edgeStep}
+
+-- ---- the rules that every command shares
+
+-- No byte is missing exactly if there are enough.
+pub missing-none : (n : ℕ) (s : List ℕ) → missing n s ≡ 0 → n ≤ length s
+missing-none n s e = ltb-false (length s) n (when-none 1 (ltb (length s) n) (omega arith) e)
+
+pub none-missing : (n : ℕ) (s : List ℕ) → n ≤ length s → missing n s ≡ 0
+none-missing n s h = none-when 1 (le-ltb (length s) n h)
+
+-- The command fits exactly if it is the one of its place.
+pub unfit-none : (c : ℕ) (s : List ℕ) → unfit c s ≡ 0 → at s 0 ≡ c
+unfit-none c s e = eqb-true (at s 0) c (not-false (eqb (at s 0) c) (when-none 2 (not (eqb (at s 0) c)) (omega arith) e))
+
+pub none-unfit : (c : ℕ) (s : List ℕ) → at s 0 ≡ c → unfit c s ≡ 0
+none-unfit c s e = none-when 2 (ap not (eq-eqb (at s 0) c e))
+
+-- The refusal of the command c with k bytes, from that of its values.
+abbrev pub command : ℕ → ℕ → List ℕ → ℕ → ℕ
+command c k s values = missing 1 s then unfit c s then missing k s then values
+
+-- A refusal of the first rules is at most 2, so any bound on the values' rules above that holds for the command.
+command-bounded : (m c k : ℕ) (s : List ℕ) (values : ℕ) → 2 ≤ m → values ≤ m → command c k s values ≤ m
+command-bounded m c k s values h v =
+    then-bounded m _ _ (when-bounded m 1 _ (omega arith))
+    (then-bounded m _ _ (when-bounded m 2 _ h) (then-bounded m _ _ (when-bounded m 1 _ (omega arith)) v))
+
+-- A command finds no fault exactly if it fits, its operands are there and its values have none.
+command-none : (c k : ℕ) (s : List ℕ) (values : ℕ) → command c k s values ≡ 0
+    → (at s 0 ≡ c) × ((k ≤ length s) × (values ≡ 0))
+command-none c k s values e =
+    let a = then-none (missing 1 s) (unfit c s then missing k s then values) e in
+    let b = then-none (unfit c s) (missing k s then values) (a .1) in
+    let d = then-none (missing k s) values (b .1) in
+    (unfit-none c s (b .0), (missing-none k s (d .0), d .1))
+
+-- A command that fits and is whole is decided by its values.
+pub command-values : (c k : ℕ) (s : List ℕ) (values : ℕ) → at s 0 ≡ c → 0 < k → k ≤ length s → command c k s values ≡ values
+command-values c k s values f p h =
+    none-then _ (none-missing 1 s (omega arith)) ∙ none-then _ (none-unfit c s f) ∙ none-then _ (none-missing k s h)
+
+-- ---- the size
+
+two : (s : List ℕ) → 2 ≤ length s → s ≡ at s 0 ∷ at s 1 ∷ drop 2 s
+two [] h = absurd (omega arith)
+two (c ∷ []) h = absurd (omega arith)
+two (c ∷ n ∷ s) h = refl
+
+pub data SizeView (s : List ℕ) : Type 0 where
+  size : (n : ℕ) (rest : List ℕ) → sizeStep s ≡ Step.Size n → s ≡ 0x50 ∷ n ∷ rest → sizeFault n ≡ 0 → SizeView s
+  refused : (r : ℕ) → sizeStep s ≡ Step.Refused r → 0 < r → r ≤ 10 → SizeView s
+
+pub size-view : (s : List ℕ) → SizeView s
+unfolding sizeStep sizeRefusal sizeFault
+size-view s = go (sizeRefusal s) refl
+  where
+    go : (r : ℕ) → sizeRefusal s ≡ r → SizeView s
+    go zero e =
+        let f = command-none 0x50 2 s (sizeFault (at s 1)) e in
+        size (at s 1) (drop 2 s) (rw e) (two s (f .1 .0) ∙ ap (λ c. c ∷ at s 1 ∷ drop 2 s) (f .0)) (f .1 .1)
+    go (suc r) e =
+        refused (suc r) (rw e) (omega arith)
+        (rw e at (command-bounded 10 0x50 2 s (sizeFault (at s 1)) (omega arith) (when-bounded 10 4 _ (omega arith))))
+
+pub size-taken : (n : ℕ) (s : List ℕ) → sizeFault n ≡ 0 → sizeStep (0x50 ∷ n ∷ s) ≡ Step.Size n
+unfolding sizeStep sizeRefusal
+size-taken n s e = rw (command-values 0x50 2 (0x50 ∷ n ∷ s) (sizeFault n) refl (omega arith) (omega arith) ∙ e)
+
+-- ---- source and sink
+
+three : (s : List ℕ) → 3 ≤ length s → s ≡ at s 0 ∷ at s 1 ∷ at s 2 ∷ drop 3 s
+three [] h = absurd (omega arith)
+three (c ∷ []) h = absurd (omega arith)
+three (c ∷ a ∷ []) h = absurd (omega arith)
+three (c ∷ a ∷ b ∷ s) h = refl
+
+pub data TerminalsView (n : ℕ) (s : List ℕ) : Type 0 where
+  terminals : (a b : ℕ) (rest : List ℕ) → terminalsStep n s ≡ Step.Terminals a b → s ≡ 0x53 ∷ a ∷ b ∷ rest
+      → terminalFault n a b ≡ 0 → TerminalsView n s
+  refused : (r : ℕ) → terminalsStep n s ≡ Step.Refused r → 0 < r → r ≤ 10 → TerminalsView n s
+
+pub terminals-view : (n : ℕ) (s : List ℕ) → TerminalsView n s
+unfolding terminalsStep terminalsRefusal pairFault
+terminals-view n s = go (terminalsRefusal n s) refl
+  where
+    go : (r : ℕ) → terminalsRefusal n s ≡ r → TerminalsView n s
+    go zero e =
+        let f = command-none 0x53 3 s (terminalFault n (at s 1) (at s 2)) e in
+        terminals (at s 1) (at s 2) (drop 3 s) (rw e)
+        (three s (f .1 .0) ∙ ap (λ c. c ∷ at s 1 ∷ at s 2 ∷ drop 3 s) (f .0)) (f .1 .1)
+    go (suc r) e =
+        TerminalsView.refused (suc r) (rw e) (omega arith)
+        (rw e at (command-bounded 10 0x53 3 s (terminalFault n (at s 1) (at s 2)) (omega arith)
+        (then-bounded 10 _ _ (when-bounded 10 5 _ (omega arith)) (when-bounded 10 6 _ (omega arith)))))
+
+pub terminals-taken : (n a b : ℕ) (s : List ℕ) → terminalFault n a b ≡ 0
+    → terminalsStep n (0x53 ∷ a ∷ b ∷ s) ≡ Step.Terminals a b
+unfolding terminalsStep terminalsRefusal
+terminals-taken n a b s e =
+    rw (command-values 0x53 3 (0x53 ∷ a ∷ b ∷ s) (terminalFault n a b) refl (omega arith) (omega arith) ∙ e)
+
+-- ---- the edges and the end
+
+four : (s : List ℕ) → 4 ≤ length s → s ≡ at s 0 ∷ at s 1 ∷ at s 2 ∷ at s 3 ∷ drop 4 s
+four [] h = absurd (omega arith)
+four (c ∷ []) h = absurd (omega arith)
+four (c ∷ k ∷ []) h = absurd (omega arith)
+four (c ∷ k ∷ a ∷ []) h = absurd (omega arith)
+four (c ∷ k ∷ a ∷ b ∷ s) h = refl
+
+pub data EdgeView (n next : ℕ) (s : List ℕ) : Type 0 where
+  edge : (k a b : ℕ) (rest : List ℕ) → edgeStep n next s ≡ Step.Edge k a b → s ≡ 0x43 ∷ k ∷ a ∷ b ∷ rest
+      → next ≤ k → k < 64 → endFault n a b ≡ 0 → EdgeView n next s
+  end : edgeStep n next s ≡ Step.End → s ≡ 0x45 ∷ [] → EdgeView n next s
+  refused : (r : ℕ) → edgeStep n next s ≡ Step.Refused r → 0 < r → r ≤ 10 → EdgeView n next s
+
+-- A number is free of faults exactly if it is not below the next one and below 64.
+number-none : (next k : ℕ) → numberFault next k ≡ 0 → (next ≤ k) × (k < 64)
+unfolding numberFault
+number-none next k e =
+    let f = then-none (7 when ltb 63 k) (8 when ltb k next) e in
+    let above = ltb-false 63 k (when-none 7 (ltb 63 k) (omega arith) (f .0)) in
+    (ltb-false k next (when-none 8 (ltb k next) (omega arith) (f .1)), omega arith)
+
+none-number : (next k : ℕ) → next ≤ k → k < 64 → numberFault next k ≡ 0
+unfolding numberFault
+none-number next k h l = none-then _ (none-when 7 (le-ltb 63 k (omega arith))) ∙ none-when 8 (le-ltb k next h)
+
+-- The only plan's end without a fault is 45 alone.
+end-none : (s : List ℕ) → at s 0 ≡ 0x45 → endRefusal s ≡ 0 → s ≡ 0x45 ∷ []
+unfolding endRefusal
+end-none [] c e = absurd (let bad : _≡_ {A = ℕ} 0 69 = c in omega arith)
+end-none (x ∷ []) c e = ap (λ y. y ∷ []) c
+end-none (x ∷ y ∷ s) c e =
+    absurd (let short = ltb-false 1 (length (x ∷ y ∷ s)) (when-none 3 (ltb 1 (length (x ∷ y ∷ s))) (omega arith) e) in omega arith)
+
+pub edge-view : (n next : ℕ) (s : List ℕ) → EdgeView n next s
+unfolding edgeStep edgeRefusal endRefusal numberFault pairFault
+edge-view n next s = go (eqb (at s 0) 0x45) refl
+  where
+    at-end : eqb (at s 0) 0x45 ≡ true → (r : ℕ) → endRefusal s ≡ r → EdgeView n next s
+    at-end c zero e = end (rw (c, e)) (end-none s (eqb-true (at s 0) 0x45 c) e)
+    at-end c (suc r) e = EdgeView.refused (suc r) (rw (c, e)) (omega arith) (rw e at (when-bounded 10 3 (ltb 1 (length s)) (omega arith)))
+
+    at-edge : eqb (at s 0) 0x45 ≡ false → (r : ℕ) → edgeRefusal n next s ≡ r → EdgeView n next s
+    at-edge c zero e =
+        let f = command-none 0x43 4 s (numberFault next (at s 1) then endFault n (at s 2) (at s 3)) e in
+        let g = then-none (numberFault next (at s 1)) (endFault n (at s 2) (at s 3)) (f .1 .1) in
+        let h = number-none next (at s 1) (g .0) in
+        edge (at s 1) (at s 2) (at s 3) (drop 4 s) (rw (c, e))
+        (four s (f .1 .0) ∙ ap (λ c. c ∷ at s 1 ∷ at s 2 ∷ at s 3 ∷ drop 4 s) (f .0)) (h .0) (h .1) (g .1)
+    at-edge c (suc r) e =
+        EdgeView.refused (suc r) (rw (c, e)) (omega arith)
+        (rw e at (command-bounded 10 0x43 4 s (numberFault next (at s 1) then endFault n (at s 2) (at s 3)) (omega arith)
+        (then-bounded 10 _ _ (then-bounded 10 _ _ (when-bounded 10 7 _ (omega arith)) (when-bounded 10 8 _ (omega arith)))
+        (then-bounded 10 _ _ (when-bounded 10 9 _ (omega arith)) (when-bounded 10 10 _ (omega arith))))))
+
+    go : (b : Bool) → eqb (at s 0) 0x45 ≡ b → EdgeView n next s
+    go true c = at-end c (endRefusal s) refl
+    go false c = at-edge c (edgeRefusal n next s) refl
+
+pub edge-taken : (n next k a b : ℕ) (s : List ℕ) → next ≤ k → k < 64 → endFault n a b ≡ 0
+    → edgeStep n next (0x43 ∷ k ∷ a ∷ b ∷ s) ≡ Step.Edge k a b
+unfolding edgeStep edgeRefusal
+edge-taken n next k a b s h l e =
+    rw (command-values 0x43 4 (0x43 ∷ k ∷ a ∷ b ∷ s) (numberFault next k then endFault n a b) refl (omega arith) (omega arith)
+    ∙ none-then _ (none-number next k h l) ∙ e)
+
+pub end-taken : (n next : ℕ) → edgeStep n next (0x45 ∷ []) ≡ Step.End
+unfolding edgeStep endRefusal _when_
+end-taken n next = refl

@@ -1,0 +1,336 @@
+-- Reading what was written gives the same record, and how long a plan can be.
+-- Assumes nothing.
+use mathlib.Core.Bool.{Bool, true, false, cond, _&&_, _||_, or-false, or-true, and-false}
+use mathlib.Core.List.{List, [], _∷_, _++_, flatMap, append-assoc, append-nil}
+use mathlib.Core.Logic.{_⊎_, inl, inr}
+use mathlib.Core.Path.{_≡_, refl, ap, ap₂, sym, _∙_}
+use Prim.Native.Nat.{ℕ, zero, suc, _+_, _-_, _*_, _%_, _^_, _≤_, _<_, zero-le}
+use native.Mathlib.Nat.{mod-eq-of-lt, mod-one, le-refl, add-zero, zero-add}
+use native.Mathlib.Decide.{ℕ-discrete, decLt}
+use native.Mathlib.Omega.{arith}
+use lib.Dec.{ltb, eqb}
+use lib.ListN.{length, getD, take, drop, set, replicate, length-append, length-drop}
+use lib.Seq.{take-suc, take-all, length-take-le, set-at, append-snoc, sets, sets-eq, drop-drop, drop-at, take-at, take-add, take-append-seam, drop-append-seam}
+use borrow.Author.Tests.{lt-ltb, le-ltb, eq-eqb, ne-eqb, ltb-false}
+use Rattle.bitset.specs.Members.{has, insert, size}
+use Rattle.bitset.proofs.Members.{has-insert, has-mod, same-members}
+use Rattle.network.specs.declared.Network.{Network}
+use Rattle.network.specs.Record.{Stored, Slot, slot, rising, slots, slotFault, endFault, absentFault, faultOf, bare, withEdge, hasEdge, firstEnd, secondEnd}
+use Rattle.network.proofs.Refusals.{when-none, or-none}
+use Rattle.network.proofs.Slots.{empty, accepted}
+use Rattle.format.specs.Format.{edges, accept, commandOf, edgeCommand, WrittenTo, encodeOf, decodeOf, afterSize, afterTerminals}
+use Rattle.format.proofs.Steps.{size-taken, terminals-taken, edge-taken, end-taken}
+use Rattle.format.proofs.Walk.{edges-edge, edges-end}
+use Rattle.format.proofs.Commands.{command-absent}
+
+-- The first k of 64 ends, the others 0.
+prefix : ℕ → List ℕ → List ℕ
+prefix k l = take k l ++ replicate (64 - k) 0
+
+-- One more end goes to the first place after the prefix.
+prefix-set : (k : ℕ) (l : List ℕ) → k < 64 → length l ≡ 64 → set (prefix k l) k (getD l k 0) ≡ prefix (suc k) l
+unfolding prefix
+prefix-set k l h e =
+    let more : 64 - k ≡ suc (64 - suc k) = omega arith in
+    let full : length (take k l) ≡ k = length-take-le k l (omega arith) in
+    ap (λ n. set (take k l ++ replicate n 0) k (getD l k 0)) more
+    ∙ set-at (take k l) 0 (replicate (64 - suc k) 0) (getD l k 0) k full
+    ∙ sym (append-snoc (take k l) (getD l k 0) (replicate (64 - suc k) 0))
+    ∙ ap (λ t. t ++ replicate (64 - suc k) 0) (sym (take-suc l k 0 (omega arith)))
+
+-- An end that is 0 was there already.
+prefix-zero : (k : ℕ) (l : List ℕ) → k < 64 → length l ≡ 64 → getD l k 0 ≡ 0 → prefix (suc k) l ≡ prefix k l
+unfolding prefix
+prefix-zero k l h e z =
+    let more : 64 - k ≡ suc (64 - suc k) = omega arith in
+    ap (λ t. t ++ replicate (64 - suc k) 0) (take-suc l k 0 (omega arith) ∙ ap (λ x. take k l ++ (x ∷ [])) z)
+    ∙ append-snoc (take k l) 0 (replicate (64 - suc k) 0)
+    ∙ ap (λ n. take k l ++ replicate n 0) (sym more)
+
+prefix-all : (l : List ℕ) → length l ≡ 64 → prefix 64 l ≡ l
+unfolding prefix
+prefix-all l e = append-nil (take 64 l) ∙ take-all 64 l (omega arith)
+
+-- Below k + 1 is below k, but for k itself.
+ltb-step : (j k : ℕ) → (j ≡ k → ⊥) → ltb j (suc k) ≡ ltb j k
+ltb-step j k d = go (decLt j k)
+  where
+    go : Dec (j < k) → ltb j (suc k) ≡ ltb j k
+    go (yes l) = lt-ltb j (suc k) (omega arith) ∙ sym (lt-ltb j k l)
+    go (no l) = le-ltb j (suc k) (omega arith) ∙ sym (le-ltb j k (omega arith))
+
+-- The members below k + 1 are those below k, with k if it is one.
+below-more : (s k : ℕ) → has s k ≡ true → insert (s % 2 ^ k) k ≡ s % 2 ^ suc k
+below-more s k e = same-members _ _ (λ j. has-insert (s % 2 ^ k) k j ∙ ap (λ x. x || eqb j k) (has-mod k s j) ∙ at j (ℕ-discrete j k) ∙ sym (has-mod (suc k) s j))
+  where
+    at : (j : ℕ) → Dec (j ≡ k) → ((ltb j k && has s j) || eqb j k) ≡ (ltb j (suc k) && has s j)
+    at j (yes p) =
+        ap (λ x. (ltb j k && has s j) || x) (eq-eqb j k p) ∙ or-true (ltb j k && has s j)
+        ∙ sym (ap₂ _&&_ (lt-ltb j (suc k) (omega arith)) (ap (has s) p ∙ e))
+    at j (no d) =
+        ap (λ x. (ltb j k && has s j) || x) (ne-eqb j k d) ∙ or-false (ltb j k && has s j)
+        ∙ ap (λ x. x && has s j) (sym (ltb-step j k d))
+
+below-same : (s k : ℕ) → has s k ≡ false → s % 2 ^ suc k ≡ s % 2 ^ k
+below-same s k e = same-members _ _ (λ j. has-mod (suc k) s j ∙ at j (ℕ-discrete j k) ∙ sym (has-mod k s j))
+  where
+    at : (j : ℕ) → Dec (j ≡ k) → (ltb j (suc k) && has s j) ≡ (ltb j k && has s j)
+    at j (yes p) =
+        let none : has s j ≡ false = ap (has s) p ∙ e in
+        ap (λ x. ltb j (suc k) && x) none ∙ and-false (ltb j (suc k)) ∙ sym (ap (λ x. ltb j k && x) none ∙ and-false (ltb j k))
+    at j (no d) = ap (λ x. x && has s j) (ltb-step j k d)
+
+-- N with its edges below k alone.
+below : Network → ℕ → Network
+below N k = record {
+  nodes = N .nodes;
+  source = N .source;
+  sink = N .sink;
+  present = record { 0 = N .present .0 % 2 ^ k };
+  first = prefix k (N .first);
+  second = prefix k (N .second);
+}
+
+-- Two networks with the same nodes and terminals are equal if their edges and ends are.
+assemble : (n s t : ℕ) {p p′ : ℕ} {f f′ g g′ : List ℕ} → p ≡ p′ → f ≡ f′ → g ≡ g′
+    → _≡_ {A = Network} (record { nodes = n; source = s; sink = t; present = record { 0 = p }; first = f; second = g })
+    (record { nodes = n; source = s; sink = t; present = record { 0 = p′ }; first = f′; second = g′ })
+assemble n s t e e′ e″ = λ i. record { nodes = n; source = s; sink = t; present = record { 0 = e i }; first = e′ i; second = e″ i }
+
+module _ (N : Network) (stored : Stored N) where
+  below-none : bare (N .nodes) (N .source) (N .sink) ≡ below N 0
+  unfolding below bare prefix
+  below-none = assemble (N .nodes) (N .source) (N .sink) (sym (mod-one (N .present .0))) refl refl
+
+  below-all : below N 64 ≡ N
+  unfolding below
+  below-all = assemble (N .nodes) (N .source) (N .sink) (mod-eq-of-lt (stored .edges)) (prefix-all (N .first) (stored .firsts)) (prefix-all (N .second) (stored .seconds))
+
+  below-edge : (k : ℕ) → k < 64 → hasEdge N k ≡ true → withEdge (below N k) k (firstEnd N k) (secondEnd N k) ≡ below N (suc k)
+  unfolding below withEdge
+  below-edge k l e =
+      assemble (N .nodes) (N .source) (N .sink) (below-more (N .present .0) k e) (prefix-set k (N .first) l (stored .firsts))
+      (prefix-set k (N .second) l (stored .seconds))
+
+  below-absent : (k : ℕ) → k < 64 → slot N k ≡ empty → below N (suc k) ≡ below N k
+  unfolding below
+  below-absent k l e =
+      assemble (N .nodes) (N .source) (N .sink) (below-same (N .present .0) k (ap (λ (x : Slot). x .0) e))
+      (prefix-zero k (N .first) l (stored .firsts) (ap (λ (x : Slot). x .1) e))
+      (prefix-zero k (N .second) l (stored .seconds) (ap (λ (x : Slot). x .2) e))
+
+-- A slot without a fault holds an edge with good ends, or nothing.
+slot-cases : (N : Network) (k : ℕ) → slotFault N k ≡ 0 → (b : Bool) → hasEdge N k ≡ b
+    → ((b ≡ true) × (endFault (N .nodes) (firstEnd N k) (secondEnd N k) ≡ 0)) ⊎ (slot N k ≡ empty)
+unfolding slotFault absentFault
+slot-cases N k z true e = inl (refl, (rw e at z))
+slot-cases N k z false e =
+    let zeros = or-none (ltb 0 (firstEnd N k)) (ltb 0 (secondEnd N k))
+    (when-none 13 (ltb 0 (firstEnd N k) || ltb 0 (secondEnd N k)) (omega arith) (rw e at z)) in
+    let low = ltb-false 0 (firstEnd N k) (zeros .0) in
+    let high = ltb-false 0 (secondEnd N k) (zeros .1) in
+    let f : firstEnd N k ≡ 0 = omega arith in
+    let g : secondEnd N k ≡ 0 = omega arith in
+    inr (λ i. (e i, f i, g i))
+
+-- The commands of the n slots from k on, and the end.
+pub rest : Network → ℕ → ℕ → List ℕ
+rest N k n = flatMap (edgeCommand N) (rising k n) ++ 0x45 ∷ []
+
+rest-edge : (N : Network) (k n : ℕ) → hasEdge N k ≡ true → rest N k (suc n) ≡ 0x43 ∷ k ∷ firstEnd N k ∷ secondEnd N k ∷ rest N (suc k) n
+unfolding rest flatMap rising edgeCommand
+rest-edge N k n e = rw e
+
+rest-absent : (N : Network) (k n : ℕ) → slot N k ≡ empty → rest N k (suc n) ≡ rest N (suc k) n
+unfolding rest flatMap rising
+rest-absent N k n e = ap (λ c. (c ++ flatMap (edgeCommand N) (rising (suc k) n)) ++ 0x45 ∷ []) (command-absent N k (ap (λ (x : Slot). x .0) e))
+
+module _ (N : Network) (stored : Stored N) (sound : (k : ℕ) → k < 64 → slotFault N k ≡ 0) where
+  -- The commands of N from slot k on, read into the edges below k, give N.
+  abbrev ReadFrom : ℕ → Type 0
+  ReadFrom left =
+      (k next turns : ℕ) → k + left ≡ 64 → next ≤ k → length (rest N k left) ≤ turns → edges turns (below N k) next (rest N k left) ≡ accept N
+
+  read-none : ReadFrom 0
+  unfolding rest flatMap rising
+  read-none k next zero e h t = absurd (omega arith)
+  read-none k next (suc turns) e h t =
+      let all : k ≡ 64 = omega arith in
+      edges-end turns (below N k) next (0x45 ∷ []) (end-taken (below N k .nodes) next) ∙ ap accept (ap (below N) all ∙ below-all N stored)
+
+  read-more : (left : ℕ) → ReadFrom left → ReadFrom (suc left)
+  unfolding below
+  read-more left later k next turns e h t = go (slot-cases N k (sound k (omega arith)) (hasEdge N k) refl)
+    where
+      -- An edge takes a turn.
+      edge-read : (turns : ℕ) → length (rest N k (suc left)) ≤ turns → hasEdge N k ≡ true
+          → endFault (N .nodes) (firstEnd N k) (secondEnd N k) ≡ 0 → edges turns (below N k) next (rest N k (suc left)) ≡ accept N
+      edge-read zero t p f = absurd (omega (arith, ap length (rest-edge N k left p)))
+      edge-read (suc turns) t p f =
+          let bytes = rest-edge N k left p in
+          let l : k < 64 = omega arith in
+          let shorter : length (rest N (suc k) left) ≤ turns = omega (arith, ap length bytes) in
+          ap (edges (suc turns) (below N k) next) bytes
+          ∙ edges-edge turns (below N k) next _ (edge-taken (N .nodes) next k (firstEnd N k) (secondEnd N k) (rest N (suc k) left) h l f)
+          ∙ ap (λ x. edges turns x (suc k) (rest N (suc k) left)) (below-edge N stored k l p)
+          ∙ later (suc k) (suc k) turns (omega arith) (omega arith) shorter
+
+      go : ((hasEdge N k ≡ true) × (endFault (N .nodes) (firstEnd N k) (secondEnd N k) ≡ 0)) ⊎ (slot N k ≡ empty)
+          → edges turns (below N k) next (rest N k (suc left)) ≡ accept N
+      go (inl p) = edge-read turns t (p .0) (p .1)
+      go (inr p) =
+          let bytes = rest-absent N k left p in
+          let same : length (rest N (suc k) left) ≤ turns = omega (arith, ap length bytes) in
+          ap₂ (λ x y. edges turns x next y) (sym (below-absent N stored k (omega arith) p)) bytes
+          ∙ later (suc k) next turns (omega arith) (omega arith) same
+
+  read-from : (left : ℕ) → ReadFrom left
+  read-from zero = read-none
+  read-from (suc left) = read-more left (read-from left)
+
+-- Reading what was written gives the same record, for every accepted record.
+pub encode-decode : (N : Network) → Stored N → faultOf N ≡ 0 → decodeOf (encodeOf N) ≡ accept N
+unfolding decodeOf afterSize afterTerminals encodeOf rest
+encode-decode N stored z =
+    let a = accepted N z in
+    ap (λ x. afterSize x (drop 2 (encodeOf N))) (size-taken (N .nodes) _ (a .size))
+    ∙ ap (λ x. afterTerminals (N .nodes) x (rest N 0 64)) (terminals-taken (N .nodes) (N .source) (N .sink) _ (a .terminals))
+    ∙ ap (λ x. edges (length (rest N 0 64)) x 0 (rest N 0 64)) (below-none N stored)
+    ∙ read-from N stored (a .slot-none) 64 0 0 (length (rest N 0 64)) refl zero-le (le-refl _)
+
+-- ---- the longest plan
+
+-- A slot has at most four bytes.
+command-length : (N : Network) (k : ℕ) → length (edgeCommand N k) ≤ 4
+unfolding edgeCommand
+command-length N k = go (hasEdge N k)
+  where
+    go : (b : Bool) → length (commandOf k (b, firstEnd N k, secondEnd N k)) ≤ 4
+    go true = le-refl 4
+    go false = zero-le
+
+commands-length : (N : Network) (k n : ℕ) → length (rest N k n) ≤ 4 * n + 1
+unfolding rest flatMap rising
+commands-length N k zero = le-refl 1
+commands-length N k (suc n) =
+    let more : length (rest N k (suc n)) ≡ length (edgeCommand N k) + length (rest N (suc k) n) =
+    ap length (append-assoc (edgeCommand N k) (flatMap (edgeCommand N) (rising (suc k) n)) (0x45 ∷ []))
+    ∙ length-append (edgeCommand N k) (rest N (suc k) n) in
+    omega (arith, command-length N k, commands-length N (suc k) n)
+
+-- A plan has at most 262 bytes.
+pub encode-length : (N : Network) → length (encodeOf N) ≤ 262
+unfolding encodeOf rest
+encode-length N = omega (arith, commands-length N 0 64)
+
+-- ---- the writer's steps
+
+-- One slot more stands at the end of a row.
+rising-snoc : (k n : ℕ) → rising k (suc n) ≡ rising k n ++ (k + n) ∷ []
+unfolding rising
+rising-snoc k zero = ap (λ x. x ∷ []) (sym (add-zero k))
+rising-snoc k (suc n) = let e : suc k + n ≡ k + suc n = omega arith in ap (λ l. k ∷ l) (rising-snoc (suc k) n ∙ ap (λ x. rising (suc k) n ++ x ∷ []) e)
+
+flatMap-append : (f : ℕ → List ℕ) (l m : List ℕ) → flatMap f (l ++ m) ≡ flatMap f l ++ flatMap f m
+unfolding flatMap
+flatMap-append f [] m = refl
+flatMap-append f (x ∷ l) m = ap (λ t. f x ++ t) (flatMap-append f l m) ∙ sym (append-assoc (f x) (flatMap f l) (flatMap f m))
+
+-- The commands have four bytes for each present edge.
+command-size : (N : Network) (k : ℕ) → length (edgeCommand N k) + 4 * size k (N .present .0) ≡ 4 * size (suc k) (N .present .0)
+unfolding edgeCommand size
+command-size N k = go (hasEdge N k)
+  where
+    go : (b : Bool)
+        → length (cond b (0x43 ∷ k ∷ firstEnd N k ∷ secondEnd N k ∷ []) []) + 4 * size k (N .present .0)
+        ≡ 4 * (elim b as (λ x. ℕ) [ true ↦ suc (size k (N .present .0)) | false ↦ size k (N .present .0) ])
+    go true = omega arith
+    go false = omega arith
+
+commands-size : (N : Network) (n : ℕ) → length (flatMap (edgeCommand N) (rising 0 n)) ≡ 4 * size n (N .present .0)
+unfolding rising flatMap size
+commands-size N zero = refl
+commands-size N (suc n) =
+    let last : flatMap (edgeCommand N) (rising 0 (suc n)) ≡ flatMap (edgeCommand N) (rising 0 n) ++ edgeCommand N n =
+    ap (flatMap (edgeCommand N)) (rising-snoc 0 n)
+    ∙ flatMap-append (edgeCommand N) (rising 0 n) ((0 + n) ∷ [])
+    ∙ ap (λ c. flatMap (edgeCommand N) (rising 0 n) ++ c) (append-nil (edgeCommand N (0 + n)) ∙ ap (edgeCommand N) (zero-add n)) in
+    ap length last ∙ length-append (flatMap (edgeCommand N) (rising 0 n)) (edgeCommand N n)
+    ∙ omega (arith, commands-size N n, command-size N n)
+
+-- A plan has six bytes and four for each edge.
+pub encode-size : (N : Network) → length (encodeOf N) ≡ 6 + 4 * size 64 (N .present .0)
+unfolding encodeOf
+encode-size N = omega (arith, commands-size N 64, length-append (flatMap (edgeCommand N) slots) (0x45 ∷ []))
+
+-- A buffer keeps its length.
+pub written-length : (e l : List ℕ) (n : ℕ) (p : List ℕ) → WrittenTo e l n p → length p ≡ length l
+written-length e l n p w =
+    ap length (w .bytes) ∙ length-append (take n e) (drop n l)
+    ∙ omega (arith, length-take-le n e (w .within), length-drop n l, w .within, w .room)
+
+-- The bytes vs that come next in the plan are stored, and then more of it is written.
+module _ (e l p : List ℕ) (at : ℕ) (vs later : List ℕ) (w : WrittenTo e l at p) (r : drop at e ≡ vs ++ later) where
+  -- They fit.
+  next-fits : at + length vs ≤ length e
+  next-fits = omega (arith, w .within, sym (length-drop at e) ∙ ap length r ∙ length-append vs later)
+
+  full : length (take at e) ≡ at
+  full = length-take-le at e (w .within)
+
+  longer : length p ≡ length l
+  longer = written-length e l at p w
+
+  pub next-room : at + length vs ≤ length p
+  next-room = omega (arith, longer, next-fits, w .room)
+
+  past : drop (at + length vs) p ≡ drop (at + length vs) l
+  past =
+      sym (drop-drop (length vs) at p)
+      ∙ ap (drop (length vs)) (ap (drop at) (w .bytes) ∙ drop-at (take at e) (drop at l) at full)
+      ∙ drop-drop (length vs) at l
+
+  pub written-next : WrittenTo e l (at + length vs) (sets p at vs)
+  written-next = record {
+    within = next-fits;
+    room = w .room;
+    bytes =
+        sets-eq vs p at next-room
+        ∙ ap₂ (λ x y. x ++ vs ++ y) (ap (take at) (w .bytes) ∙ take-at (take at e) (drop at l) at full) past
+        ∙ ap (λ x. x ++ drop (at + length vs) l)
+        (sym (take-add at (length vs) e ∙ ap (λ x. take at e ++ x) (ap (take (length vs)) r ∙ take-append-seam vs later)));
+  }
+
+  pub left-next : drop (at + length vs) e ≡ later
+  left-next = sym (drop-drop (length vs) at e) ∙ ap (drop (length vs)) r ∙ drop-append-seam vs later
+
+-- A slot's command comes first of those from it on.
+pub rest-more : (N : Network) (k : ℕ) → k < 64 → rest N k (64 - k) ≡ edgeCommand N k ++ rest N (suc k) (64 - suc k)
+unfolding rest flatMap rising
+rest-more N k l =
+    let more : 64 - k ≡ suc (64 - suc k) = omega arith in
+    ap (rest N k) more ∙ append-assoc (edgeCommand N k) (flatMap (edgeCommand N) (rising (suc k) (64 - suc k))) (0x45 ∷ [])
+
+-- A slot's command, written where the commands from it on are left.
+module _ (N : Network) (l p : List ℕ) (at k : ℕ) (vs : List ℕ) (h : k < 64) (same : vs ≡ edgeCommand N k) (w : WrittenTo (encodeOf N) l at p)
+    (left : drop at (encodeOf N) ≡ rest N k (64 - k)) where
+  next-slot : drop at (encodeOf N) ≡ vs ++ rest N (suc k) (64 - suc k)
+  next-slot = left ∙ rest-more N k h ∙ ap (λ x. x ++ rest N (suc k) (64 - suc k)) (sym same)
+
+  pub slot-room : at + length vs ≤ length p
+  slot-room = next-room (encodeOf N) l p at vs (rest N (suc k) (64 - suc k)) w next-slot
+
+  pub slot-written : WrittenTo (encodeOf N) l (at + length vs) (sets p at vs)
+  slot-written = written-next (encodeOf N) l p at vs (rest N (suc k) (64 - suc k)) w next-slot
+
+  pub slots-left : drop (at + length vs) (encodeOf N) ≡ rest N (suc k) (64 - suc k)
+  slots-left = left-next (encodeOf N) l p at vs (rest N (suc k) (64 - suc k)) w next-slot
+
+-- After the header come all slots, and after the last slot the end.
+pub rest-all : (N : Network) → drop 5 (encodeOf N) ≡ rest N 0 64
+unfolding encodeOf rest
+rest-all N = refl
+
+pub rest-none : (N : Network) → rest N 64 0 ≡ 0x45 ∷ []
+unfolding rest rising flatMap
+rest-none N = refl

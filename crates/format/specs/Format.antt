@@ -1,0 +1,173 @@
+-- The bytes of a network (the paper's section "Plan and bytes"), read and written. Bytes are shown in hexadecimal, all else in decimal.
+--
+--   missing n s, unfit c s    the refusals 1 and 2 of the command at the head of the bytes s
+--   sizeStep s, terminalsStep n s, edgeStep n next s     what that command gives: its values, the end, or a refusal
+--   stepOf w s                what it gives where w is awaited, and number t the paper's number of the answer t
+--   edges turns N next s, walk N next s     the edge commands and the end, read into N
+--   decodeOf s                the bytes s read: the refusal's number beside the record
+--   commandOf k s, edgeCommand N k     the bytes of slot k
+--   encodeOf N                the bytes of N
+--   encodeRefusal N lent      the writer's refusal, encodedBy N lent its answer, bytesAfter N lent the lent buffer afterwards
+--   WrittenTo plan lent n buffer       the first n bytes of a plan stand in a lent buffer
+use mathlib.Core.Bool.{cond, not}
+use mathlib.Core.List.{List, [], _∷_, _++_, flatMap}
+use mathlib.Core.Path.{_≡_}
+use Prim.Native.Nat.{ℕ, zero, suc, _≤_}
+use lib.Dec.{ltb, eqb}
+use lib.ListN.{length, getD, take, drop}
+use Rattle.network.specs.declared.Network.{Network}
+use Rattle.network.specs.Record.{_when_, _then_, unlessRefused, sizeFault, terminalFault, endFault, faultOf, slots, Slot, slot, bare, noNetwork, withEdge}
+use Rattle.format.specs.declared.Decoded.{Decoded}
+use Rattle.format.specs.declared.Encoded.{Encoded}
+use Rattle.format.specs.declared.Awaited.{Awaited}
+use Rattle.format.specs.declared.Step.{Step}
+
+-- ---- a command
+
+-- The byte at place i.
+abbrev pub at : List ℕ → ℕ → ℕ
+at s i = getD s i 0
+
+-- 1, the plan stops early: fewer than n bytes are left.
+abbrev pub missing : ℕ → List ℕ → ℕ
+missing n s = 1 when ltb (length s) n
+
+-- 2, a byte that is no command fit for its place, which is that of the command c.
+abbrev pub unfit : ℕ → List ℕ → ℕ
+unfit c s = 2 when not (eqb (at s 0) c)
+
+-- 7: cable number above 63; 8: cable number not above the one before, so below `next`
+unfoldable pub numberFault : ℕ → ℕ → ℕ
+numberFault next k = 7 when ltb 63 k then 8 when ltb k next
+
+-- 50, point count
+unfoldable pub sizeRefusal : List ℕ → ℕ
+sizeRefusal s = missing 1 s then unfit 0x50 s then missing 2 s then sizeFault (at s 1)
+
+-- 53, server, room
+unfoldable pub terminalsRefusal : ℕ → List ℕ → ℕ
+terminalsRefusal n s = missing 1 s then unfit 0x53 s then missing 3 s then terminalFault n (at s 1) (at s 2)
+
+-- 43, cable number, first end, second end
+unfoldable pub edgeRefusal : ℕ → ℕ → List ℕ → ℕ
+edgeRefusal n next s =
+    missing 1 s then unfit 0x43 s then missing 4 s then numberFault next (at s 1) then endFault n (at s 2) (at s 3)
+
+-- 45, no operand; after it any byte is 3
+unfoldable pub endRefusal : List ℕ → ℕ
+endRefusal s = 3 when ltb 1 (length s)
+
+-- A command's answer: its refusal if it has one, else what it gives.
+abbrev pub answer : ℕ → Step → Step
+answer zero t = t
+answer (suc r) t = Step.Refused (suc r)
+
+unfoldable pub sizeStep : List ℕ → Step
+sizeStep s = answer (sizeRefusal s) (Step.Size (at s 1))
+
+unfoldable pub terminalsStep : ℕ → List ℕ → Step
+terminalsStep n s = answer (terminalsRefusal n s) (Step.Terminals (at s 1) (at s 2))
+
+-- An edge or the end, by the command byte.
+unfoldable pub edgeStep : ℕ → ℕ → List ℕ → Step
+edgeStep n next s =
+    cond (eqb (at s 0) 0x45)
+    (answer (endRefusal s) Step.End)
+    (answer (edgeRefusal n next s) (Step.Edge (at s 1) (at s 2) (at s 3)))
+
+-- The command that each place awaits, with what is known there: the number of nodes, and the least edge number allowed.
+abbrev pub stepOf : Awaited → List ℕ → Step
+stepOf Awaited.Size s = sizeStep s
+stepOf (Awaited.Terminals n) s = terminalsStep n s
+stepOf (Awaited.Edge n next) s = edgeStep n next s
+
+-- The number of each case of an answer: that of its refusal, and 0 where the command was taken.
+abbrev pub number : Step → ℕ
+number (Step.Size n) = 0
+number (Step.Terminals a b) = 0
+number (Step.Edge k a b) = 0
+number Step.End = 0
+number (Step.Refused r) = r
+
+-- ---- reading
+
+abbrev pub accept : Network → Decoded
+accept N = record { refusal = 0; network = N }
+
+abbrev pub refuse : ℕ → Decoded
+refuse r = record { refusal = r; network = noNetwork }
+
+-- The answer where the walk stops, by its number: accepted at the end, else refused.
+abbrev pub endedBy : ℕ → Network → Decoded
+endedBy zero N = accept N
+endedBy (suc r) N = refuse (suc r)
+
+-- Each place has its own command. Another's would be unfit, 2: no step gives one, as the views of proofs/Steps show.
+
+-- The edge commands and the end, read into N. Each turn takes one command.
+unfoldable pub edges : ℕ → Network → ℕ → List ℕ → Decoded
+edges zero N next s = refuse 1
+edges (suc turns) N next s =
+    elim (edgeStep (N .nodes) next s) [
+      | Step.Size n ↦ refuse 2
+      | Step.Terminals a b ↦ refuse 2
+      | Step.Edge k a b ↦ edges turns (withEdge N k a b) (suc k) (drop 4 s)
+      | Step.End ↦ accept N
+      | Step.Refused r ↦ refuse r
+    ]
+
+-- No command is empty, so as many turns as there are bytes suffice.
+abbrev pub walk : Network → ℕ → List ℕ → Decoded
+walk N next s = edges (length s) N next s
+
+unfoldable pub afterTerminals : ℕ → Step → List ℕ → Decoded
+afterTerminals n (Step.Size m) s = refuse 2
+afterTerminals n (Step.Terminals a b) s = walk (bare n a b) 0 s
+afterTerminals n (Step.Edge k a b) s = refuse 2
+afterTerminals n Step.End s = refuse 2
+afterTerminals n (Step.Refused r) s = refuse r
+
+unfoldable pub afterSize : Step → List ℕ → Decoded
+afterSize (Step.Size n) s = afterTerminals n (terminalsStep n s) (drop 3 s)
+afterSize (Step.Terminals a b) s = refuse 2
+afterSize (Step.Edge k a b) s = refuse 2
+afterSize Step.End s = refuse 2
+afterSize (Step.Refused r) s = refuse r
+
+-- The commands in their order: 50 with one operand, 53 with two, then the rest. The first that fails decides.
+unfoldable pub decodeOf : List ℕ → Decoded
+decodeOf s = afterSize (sizeStep s) (drop 2 s)
+
+-- ---- writing
+
+-- The command of a slot: an absent edge has none.
+abbrev pub commandOf : ℕ → Slot → List ℕ
+commandOf k s = cond (s .0) (0x43 ∷ k ∷ s .1 ∷ s .2 ∷ []) []
+
+unfoldable pub edgeCommand : Network → ℕ → List ℕ
+edgeCommand N k = commandOf k (slot N k)
+
+unfoldable pub encodeOf : Network → List ℕ
+encodeOf N = 0x50 ∷ N .nodes ∷ 0x53 ∷ N .source ∷ N .sink ∷ (flatMap (edgeCommand N) slots ++ 0x45 ∷ [])
+
+-- The record's first fault, then 15: the plan needs more bytes than were lent.
+unfoldable pub encodeRefusal : Network → List ℕ → ℕ
+encodeRefusal N lent = faultOf N then 15 when ltb (length lent) (length (encodeOf N))
+
+-- The writer's answer from its refusal and the count of bytes.
+abbrev pub encodeAnswer : ℕ → ℕ → Encoded
+encodeAnswer zero n = record { refusal = 0; count = n }
+encodeAnswer (suc r) n = record { refusal = suc r; count = 0 }
+
+unfoldable pub encodedBy : Network → List ℕ → Encoded
+encodedBy N lent = encodeAnswer (encodeRefusal N lent) (length (encodeOf N))
+
+-- The bytes of N, and past them what the buffer held; on refusal all that it held.
+unfoldable pub bytesAfter : Network → List ℕ → List ℕ
+bytesAfter N lent = unlessRefused (encodeRefusal N lent) (encodeOf N ++ drop (length (encodeOf N)) lent) lent
+
+-- The first n bytes of a plan stand in a buffer that held `lent`, which is long enough for all of it.
+pub record WrittenTo (plan lent : List ℕ) (n : ℕ) (buffer : List ℕ) : Type 0 where
+  pub within : n ≤ length plan
+  pub room : length plan ≤ length lent
+  pub bytes : buffer ≡ take n plan ++ drop n lent

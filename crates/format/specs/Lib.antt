@@ -1,0 +1,2 @@
+-- The bytes of a network, read and written.
+pub mod Format

@@ -1,0 +1,2 @@
+-- The reader's steps over plain values.
+pub mod Offsets

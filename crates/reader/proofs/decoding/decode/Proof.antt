@@ -1,0 +1,80 @@
+-- `reader::decode` meets its contract: each command's answer is the definition's, and the first refusal leaves.
+-- Assumes nothing.
+use mathlib.Core.Path.{sym, ap, ap₂, _∙_}
+use lib.ListN.{drop}
+use lib.Seq.{drop-drop}
+use Rattle.format.specs.Format.{refuse, walk}
+use Rattle.format.proofs.Walk.{size-goes, size-stops, terminals-goes, terminals-stops}
+use borrow.Author.Needs.{needs}
+use Rattle.reader.proofs.decoding.decode.Statement.{statement}
+use Rattle.reader.proofs.decoding.decode.Tie as tie
+
+next-command-requires : tie.Need-next-command-requires
+next-command-requires c κs = search needs
+
+enum-known-size : tie.Need-enum-known-size
+enum-known-size c = search needs
+
+number-requires : tie.Need-number-requires
+number-requires c κs = search needs
+
+refused-requires : tie.Need-refused-requires
+refused-requires c κs = search needs
+
+returns : tie.Need-returns
+returns c =
+    let plan = c .before .before .before .before .before .args .plan .now in
+    c .refused .ensures ∙ ap refuse (c .before .number .ensures)
+    ∙ size-stops plan (c .before .before .before .next-command .ensures) (c .before .before .match .keys2)
+
+next-command-requires-2 : tie.Need-next-command-requires-2
+next-command-requires-2 c κs = search needs
+
+enum-known-terminals : tie.Need-enum-known-terminals
+enum-known-terminals c = search needs
+
+number-requires-2 : tie.Need-number-requires-2
+number-requires-2 c κs = search needs
+
+refused-requires-2 : tie.Need-refused-requires-2
+refused-requires-2 c κs = search needs
+
+returns-2 : tie.Need-returns-2
+returns-2 c =
+    let plan = c .before .before .before .before .before .before .before .before .before .args .plan .now in
+    let size = c .before .before .before .before .before .size .given in
+    c .refused2 .ensures ∙ ap refuse (c .before .number2 .ensures)
+    ∙ terminals-stops (size .0 .0) (drop 2 plan) (c .before .before .before .next-command2 .ensures) (c .before .before .match2 .keys2)
+    ∙ sym (size-goes plan (c .before .before .before .before .before .before .before .next-command .ensures) (size .1))
+
+bare-network-requires : tie.Need-bare-network-requires
+bare-network-requires c κs = search needs
+
+decode-edges-requires : tie.Need-decode-edges-requires
+decode-edges-requires c κs = search needs
+
+returns-3 : tie.Need-returns-3
+returns-3 c =
+    let plan = c .before .before .before .before .before .before .before .before .before .before .before .args .plan .now in
+    let size = c .before .before .before .before .before .before .before .size .given in
+    c .decode-edges .ensures ∙ ap₂ (λ N s. walk N 0 s) (c .before .bare-network .ensures) (sym (drop-drop 3 2 plan))
+    ∙ sym (terminals-goes (size .0 .0) (drop 2 plan) (c .before .before .before .before .before .next-command2 .ensures) (c .before .before .before .terminals .given .1))
+    ∙ sym (size-goes plan (c .before .before .before .before .before .before .before .before .before .next-command .ensures) (size .1))
+
+pub decode-spec : {M : Type 1} → statement M
+decode-spec =
+    tie.close
+    (tie.spec
+    next-command-requires
+    enum-known-size
+    number-requires
+    refused-requires
+    returns
+    next-command-requires-2
+    enum-known-terminals
+    number-requires-2
+    refused-requires-2
+    returns-2
+    bare-network-requires
+    decode-edges-requires
+    returns-3)

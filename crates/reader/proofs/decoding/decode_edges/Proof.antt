@@ -1,0 +1,103 @@
+-- `reader::decode_edges` meets its contract. The invariant: the walk from here gives what the walk from the start gives.
+-- The measure is what is left of the bytes. Assumes nothing.
+use mathlib.Core.Path.{_≡_, sym, ap, ap₂, _∙_}
+use mathlib.Core.List.{List}
+use Prim.Native.Nat.{ℕ, _+_, _-_, _<_, _≤_}
+use native.Mathlib.Numerals.{add-one}
+use native.Mathlib.Omega.{arith}
+use lib.ListN.{length, drop, length-drop}
+use lib.Seq.{drop-drop}
+use borrow.Author.Needs.{needs}
+use Rattle.network.specs.declared.Network.{Network}
+use Rattle.network.specs.Record.{withEdge}
+use Rattle.format.specs.declared.Step.{Step}
+use Rattle.format.specs.Format.{walk, edgeStep}
+use Rattle.format.proofs.Walk.{edge-known, walk-edge, walk-stops}
+use Rattle.reader.proofs.decoding.decode_edges.Statement.{statement}
+use Rattle.reader.proofs.decoding.decode_edges.Tie as tie
+
+abbrev Inv-loop : tie.InvT-loop
+Inv-loop plan from network₀ next₀ at₀ network next at = walk network next (drop at plan) ≡ walk network₀ next₀ (drop at₀ plan)
+
+abbrev μ-loop : tie.MeasureT-loop
+μ-loop plan from network₀ next₀ at₀ network next at = length plan - at
+
+-- The command at an offset of the plan gave an edge: its number fits, its bytes are there, and the walk goes on after them.
+module _ (plan : List ℕ) (at : ℕ) (N : Network) (next : ℕ) {t : Step} (e : t ≡ edgeStep (N .nodes) next (drop at plan)) {k a b : ℕ}
+    (taken : t ≡ Step.Edge k a b) where
+  fits : k < 64
+  fits = edge-known (N .nodes) next (drop at plan) (sym e ∙ taken) .0
+
+  there : at + 4 ≤ length plan
+  there = omega (arith, edge-known (N .nodes) next (drop at plan) (sym e ∙ taken) .1, length-drop at plan)
+
+  goes : walk (withEdge N k a b) (k + 1) (drop (at + 4) plan) ≡ walk N next (drop at plan)
+  goes =
+      sym (walk-edge N next (drop at plan) (sym e ∙ taken)
+      ∙ ap₂ (walk (withEdge N k a b)) (sym (add-one k)) (drop-drop 4 at plan))
+
+loop-holds : tie.Need-loop-holds Inv-loop μ-loop
+loop-holds c = search needs
+
+next-command-requires : tie.Need-next-command-requires Inv-loop μ-loop
+next-command-requires c κs = search needs
+
+enum-known-step : tie.Need-enum-known-step Inv-loop μ-loop
+enum-known-step c = search needs
+
+ended-requires : tie.Need-ended-requires Inv-loop μ-loop
+ended-requires c κs = search needs
+
+returns : tie.Need-returns Inv-loop μ-loop
+returns c =
+    let l = c .before .before .before .loop in
+    let plan = c .before .before .before .before .before .args .plan .now in
+    c .ended .ensures ∙ walk-stops (l .network) (l .next) (drop (l .at) plan) (c .before .before .next-command .ensures) (c .before .match .keys2) ∙ l .inv
+
+with-edge-requires : tie.Need-with-edge-requires Inv-loop μ-loop
+with-edge-requires c κs =
+    let l = c .before .before .before .before .loop in
+    let plan = c .before .before .before .before .before .before .args .plan .now in
+    fits plan (l .at) (l .network) (l .next) (c .before .before .before .next-command .ensures) (c .before .step .given .1)
+
+add-next : tie.Need-add-next Inv-loop μ-loop
+add-next c =
+    let l = c .before .before .before .before .before .loop in
+    let plan = c .before .before .before .before .before .before .before .args .plan .now in
+    omega (arith, fits plan (l .at) (l .network) (l .next) (c .before .before .before .before .next-command .ensures) (c .before .before .step .given .1))
+
+add-at : tie.Need-add-at Inv-loop μ-loop
+add-at c =
+    let l = c .before .before .before .before .before .loop in
+    let plan = c .before .before .before .before .before .before .before .args .plan .now in
+    omega (arith, there plan (l .at) (l .network) (l .next) (c .before .before .before .before .next-command .ensures) (c .before .before .step .given .1))
+
+loop-less : tie.Need-loop-less Inv-loop μ-loop
+loop-less c =
+    let l = c .before .before .before .before .before .loop in
+    let plan = c .before .before .before .before .before .before .before .args .plan .now in
+    omega (arith, there plan (l .at) (l .network) (l .next) (c .before .before .before .before .next-command .ensures) (c .before .before .step .given .1))
+
+loop-again : tie.Need-loop-again Inv-loop μ-loop
+loop-again c =
+    let l = c .before .before .before .before .before .loop in
+    let plan = c .before .before .before .before .before .before .before .args .plan .now in
+    ap (λ x. walk x (c .before .before .step .given .0 .0 + 1) (drop (l .at + 4) plan)) (c .with-edge .ensures)
+    ∙ goes plan (l .at) (l .network) (l .next) (c .before .before .before .before .next-command .ensures) (c .before .before .step .given .1) ∙ l .inv
+
+pub decode-edges-spec : {M : Type 1} → statement M
+decode-edges-spec =
+    tie.close
+    (tie.spec
+    Inv-loop
+    μ-loop
+    loop-holds
+    next-command-requires
+    enum-known-step
+    ended-requires
+    returns
+    with-edge-requires
+    add-next
+    add-at
+    loop-less
+    loop-again)

@@ -1,0 +1,111 @@
+// The reader: the commands in their order, read into a network. It reads the bytes through `next_command` alone.
+use crate::held::next_command;
+use edge_set::EdgeSet;
+use format::Awaited;
+use format::Decoded;
+use format::Step;
+use network::Network;
+ghost use mathlib.Core.Path.{_≡_};
+ghost use Prim.Native.Nat.{_<_};
+ghost use lib.ListN.{drop};
+ghost use Rattle.network.specs.Record.{bare, withEdge};
+ghost use Rattle.format.specs.Format.{number, refuse, endedBy, walk, decodeOf};
+
+// The paper's number of an answer.
+fn number(step: Step) -> u8
+    ensures { λ r. ⌜ r ≡ number step ⌝ }
+{
+    match step {
+        Step::Size(_) => 0,
+        Step::Terminals(_, _) => 0,
+        Step::Edge(_, _, _) => 0,
+        Step::End => 0,
+        Step::Refused(refusal) => refusal,
+    }
+}
+
+// A network without edges.
+fn bare_network(nodes: u8, source: u8, sink: u8) -> Network
+    ensures { λ r. ⌜ r ≡ bare nodes source sink ⌝ }
+{
+    Network {
+        nodes,
+        source,
+        sink,
+        present: EdgeSet::empty(),
+        first: [0u8; 64],
+        second: [0u8; 64],
+    }
+}
+
+// The answer of a refusal: its number beside the all-zero record.
+fn refused(refusal: u8) -> Decoded
+    ensures { λ r. ⌜ r ≡ refuse refusal ⌝ }
+{
+    Decoded {
+        refusal,
+        network: bare_network(0, 0, 0),
+    }
+}
+
+// The network with one edge more.
+fn with_edge(network: Network, edge: u8, first: u8, second: u8) -> Network
+    requires { ⌜ edge < 64 ⌝ }
+    ensures { λ r. ⌜ r ≡ withEdge network edge first second ⌝ }
+{
+    let mut next = network;
+    let present = network.present;
+    let grown = present.with(edge as u32);
+    let at = edge as usize;
+    next.present = grown;
+    next.first[at] = first;
+    next.second[at] = second;
+    next
+}
+
+// The answer where the walk stops: the network at the end, else the refusal.
+fn ended(step: Step, network: Network) -> Decoded
+    ensures { λ r. ⌜ r ≡ endedBy (number step) network ⌝ }
+{
+    let refusal = number(step);
+    if refusal != 0 {
+        return refused(refusal);
+    }
+    Decoded {
+        refusal: 0,
+        network,
+    }
+}
+
+// The edge commands from the offset `from` on, and the end, read into a network.
+fn decode_edges(plan: &[u8], from: usize, bare: Network) -> Decoded
+    ensures { λ r. ⌜ r ≡ walk bare 0 (drop from (now (plan .entry))) ⌝ }
+{
+    let mut network = bare;
+    let mut next: u8 = 0;
+    let mut at = from;
+    loop {
+        let step = next_command(plan, at, Awaited::Edge(network.nodes, next));
+        let Step::Edge(edge, first, second) = step else {
+            return ended(step, network);
+        };
+        network = with_edge(network, edge, first, second);
+        next = edge + 1;
+        at = at + 4;
+    }
+}
+
+// The reader: the first command that fails decides.
+pub fn decode(plan: &[u8]) -> Decoded
+    ensures { λ r. ⌜ r ≡ decodeOf (now (plan .entry)) ⌝ }
+{
+    let size = next_command(plan, 0, Awaited::Size);
+    let Step::Size(nodes) = size else {
+        return refused(number(size));
+    };
+    let terminals = next_command(plan, 2, Awaited::Terminals(nodes));
+    let Step::Terminals(source, sink) = terminals else {
+        return refused(number(terminals));
+    };
+    decode_edges(plan, 5, bare_network(nodes, source, sink))
+}

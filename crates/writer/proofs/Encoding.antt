@@ -1,0 +1,100 @@
+-- The writer as a whole: what it answers and leaves in the buffer on each way out.
+-- Assumes nothing.
+use mathlib.Core.List.{List, [], _∷_, _++_}
+use mathlib.Core.Path.{_≡_, refl, ap, sym, _∙_}
+use Prim.Native.Nat.{ℕ, zero, suc, _+_, _-_, _≤_, _<_, zero-le}
+use native.Mathlib.Omega.{arith}
+use lib.ListN.{length, take, drop, set, length-drop}
+use lib.Seq.{sets, take-length, drop-drop, drop-at, length-take-le, length-sets}
+use Rattle.network.specs.declared.Network.{Network}
+use Rattle.network.specs.Record.{unlessRefused}
+use Rattle.format.specs.declared.Encoded.{Encoded}
+use Rattle.format.specs.Format.{encodeOf, encodeRefusal, encodeAnswer, encodedBy, bytesAfter, WrittenTo}
+use Rattle.format.proofs.Writing.{rest, rest-all, written-length, written-next, next-room, encode-size}
+
+-- What the writer answers and leaves.
+abbrev pub Answered : Network → List ℕ → Encoded → List ℕ → Type 0
+Answered N l answer after = (answer ≡ encodedBy N l) × (after ≡ bytesAfter N l)
+
+-- A refusal leaves the buffer as it was.
+pub encode-refused : (N : Network) (l : List ℕ) (r : ℕ) → r ≡ encodeRefusal N l → (r ≡ 0 → ⊥) → Answered N l (record { refusal = r; count = 0 }) l
+unfolding encodedBy bytesAfter
+encode-refused N l zero e d = absurd (d refl)
+encode-refused N l (suc r) e d =
+    (ap (λ x. encodeAnswer x (length (encodeOf N))) e, ap (λ x. unlessRefused x (encodeOf N ++ drop (length (encodeOf N)) l) l) e)
+
+-- Without one the plan stands in it.
+pub encode-written : (N : Network) (l : List ℕ) (n : ℕ) (after : List ℕ) → encodeRefusal N l ≡ 0 → n ≡ length (encodeOf N)
+    → after ≡ encodeOf N ++ drop (length (encodeOf N)) l → Answered N l (record { refusal = 0; count = n }) after
+unfolding encodedBy bytesAfter
+encode-written N l n after e count bytes = (
+  ap (encodeAnswer 0) count ∙ ap (λ x. encodeAnswer x (length (encodeOf N))) (sym e),
+  bytes ∙ ap (λ x. unlessRefused x (encodeOf N ++ drop (length (encodeOf N)) l) l) (sym e),
+)
+
+-- What stands past the written bytes is what stood there.
+past-written : (e l : List ℕ) (n : ℕ) (p : List ℕ) → WrittenTo e l n p → (m : ℕ) → n ≤ m → drop m p ≡ drop m l
+past-written e l n p w m h =
+    let k : n + (m - n) ≡ m = omega arith in
+    let here : drop n p ≡ drop n l = ap (drop n) (w .bytes) ∙ drop-at (take n e) (drop n l) n (length-take-le n e (w .within)) in
+    ap (λ x. drop x p) (sym k) ∙ sym (drop-drop (m - n) n p) ∙ ap (drop (m - n)) here ∙ drop-drop (m - n) n l ∙ ap (λ x. drop x l) k
+
+module _ (N : Network) (l : List ℕ) (room : length (encodeOf N) ≤ length l) where
+  abbrev header : List ℕ
+  header = 0x50 ∷ N .nodes ∷ 0x53 ∷ N .source ∷ N .sink ∷ []
+
+  nothing-written : WrittenTo (encodeOf N) l 0 l
+  nothing-written = record { within = zero-le; room = room; bytes = refl }
+
+  -- The plan begins with the header.
+  header-first : drop 0 (encodeOf N) ≡ header ++ rest N 0 64
+  unfolding encodeOf
+  header-first = ap (λ x. header ++ x) (rest-all N)
+
+  pub header-room : 5 ≤ length l
+  header-room = next-room (encodeOf N) l l 0 header (rest N 0 64) nothing-written header-first
+
+  abbrev headed : List ℕ
+  headed = sets l 0 header
+
+  header-written : WrittenTo (encodeOf N) l 5 headed
+  header-written = written-next (encodeOf N) l l 0 header (rest N 0 64) nothing-written header-first
+
+  -- The slots are written on top of what the header left.
+  pub header-kept : WrittenTo (encodeOf N) headed 5 headed
+  header-kept = record {
+    within = header-written .within;
+    room = omega (arith, room, length-sets l 0 header);
+    bytes =
+        header-written .bytes
+        ∙ ap (λ x. take 5 (encodeOf N) ++ x) (sym (past-written (encodeOf N) l 5 headed header-written 5 (omega arith)));
+  }
+
+  module _ (r : ℕ) (p : List ℕ) (w : WrittenTo (encodeOf N) headed r p) (left : drop r (encodeOf N) ≡ 0x45 ∷ []) where
+    -- One byte is left.
+    last-byte : length (encodeOf N) ≡ r + 1
+    last-byte = omega (arith, sym (length-drop r (encodeOf N)) ∙ ap length left, w .within)
+
+    slots-written : WrittenTo (encodeOf N) l r p
+    slots-written = record {
+      within = w .within;
+      room = room;
+      bytes =
+          w .bytes
+          ∙ ap (λ x. take r (encodeOf N) ++ x)
+          (past-written (encodeOf N) l 5 headed header-written r (omega (arith, last-byte, encode-size N)));
+    }
+
+    all-written : WrittenTo (encodeOf N) l (r + 1) (set p r 0x45)
+    all-written = written-next (encodeOf N) l p r (0x45 ∷ []) [] slots-written left
+
+    pub end-room : r < length p
+    end-room = omega (arith, next-room (encodeOf N) l p r (0x45 ∷ []) [] slots-written left)
+
+    pub end-length : length (set p r 0x45) ≡ length l
+    end-length = written-length (encodeOf N) l (r + 1) (set p r 0x45) all-written
+
+    pub end-bytes : set p r 0x45 ≡ encodeOf N ++ drop (length (encodeOf N)) l
+    end-bytes =
+        all-written .bytes ∙ ap (λ n. take n (encodeOf N) ++ drop n l) (sym last-byte)
+        ∙ ap (λ x. x ++ drop (length (encodeOf N)) l) (take-length (encodeOf N))

@@ -1,0 +1,2 @@
+-- The writer's steps over plain values.
+pub mod Encoding

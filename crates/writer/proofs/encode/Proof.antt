@@ -1,0 +1,82 @@
+-- `writer::encode` meets its contract: a refusal leaves the buffer, and otherwise header, slots and end stand in it.
+-- Assumes nothing.
+use mathlib.Core.Path.{sym, _∙_}
+use Prim.Native.Nat.{_≤_}
+use native.Mathlib.Omega.{arith}
+use borrow.Author.Tests.{lt-ltb, le-ltb}
+use lib.ListN.{length}
+use Rattle.network.proofs.Refusals.{none-then, some-then, some-when, none-when}
+use Rattle.format.specs.Format.{encodeOf, encodeRefusal}
+use Rattle.writer.proofs.Encoding.{encode-refused, encode-written, header-room, header-kept, end-room, end-length, end-bytes}
+use borrow.Author.Needs.{needs}
+use Rattle.writer.proofs.encode.Statement.{statement}
+use Rattle.writer.proofs.encode.Tie as tie
+
+fault-requires : tie.Need-fault-requires
+fault-requires c κs = search needs
+
+returns : tie.Need-returns
+unfolding encodeRefusal
+returns c =
+    encode-refused (c .before .before .before .args .network) _ _
+    (c .before .fault .ensures ∙ sym (some-then _ _ (omega (arith, c .before .fault .ensures)))) (c .if1 .taken)
+
+encoded-length-requires : tie.Need-encoded-length-requires
+encoded-length-requires c κs = search needs
+
+returns-2 : tie.Need-returns-2
+unfolding encodeRefusal
+returns-2 c =
+    let N = c .before .before .before .before .before .args .network in
+    let none = sym (c .before .before .before .fault .ensures) ∙ c .before .before .if1 .left in
+    encode-refused N _ 15 (sym (none-then _ none ∙ some-when 15 (lt-ltb _ _ (rw (c .before .encoded-length .ensures) at (c .if2 .taken))))) (λ e. omega arith)
+
+put-header-requires : tie.Need-put-header-requires
+put-header-requires c κs =
+    let a = c .before .before .before .before .before .before .args in
+    header-room (a .network) (a .plan .now) (rw (c .before .before .encoded-length .ensures) at (c .before .if2 .left))
+
+put-slots-requires : tie.Need-put-slots-requires
+put-slots-requires c κs =
+    let a = c .before .before .before .before .before .before .before .before .before .before .args in
+    rw (c .before .before .before .put-header .ensures) (header-kept (a .network) (a .plan .now) (rw (c .before .before .before .before .before .before .encoded-length .ensures) at (c .before .before .before .before .before .if2 .left)))
+
+slice-write-plan : tie.Need-slice-write-plan
+slice-write-plan c =
+    let a = c .before .before .before .before .before .before .before .before .before .before .before .before .before .args in
+    let p = c .before .before .put-slots in
+    end-room (a .network) (a .plan .now) (rw (c .before .before .before .before .before .before .before .before .before .encoded-length .ensures) at (c .before .before .before .before .before .before .before .before .if2 .left)) (p .result) (p .last .0)
+    (rw (c .before .before .before .before .before .before .put-header .ensures) at (p .ensures .0)) (p .ensures .1)
+
+same-length : tie.Need-same-length
+same-length c =
+    let a = c .before .before .before .before .before .before .before .before .before .before .before .before .before .args in
+    let p = c .before .before .put-slots in
+    end-length (a .network) (a .plan .now) (rw (c .before .before .before .before .before .before .before .before .before .encoded-length .ensures) at (c .before .before .before .before .before .before .before .before .if2 .left)) (p .result) (p .last .0)
+    (rw (c .before .before .before .before .before .before .put-header .ensures) at (p .ensures .0)) (p .ensures .1)
+
+returns-3 : tie.Need-returns-3
+unfolding encodeRefusal
+returns-3 c =
+    let a = c .before .before .before .before .before .before .before .before .before .before .before .before .before .args in
+    let p = c .before .before .put-slots in
+    let count = c .before .before .before .before .before .before .before .before .before .encoded-length .ensures in
+    let room : length (encodeOf (a .network)) ≤ length (a .plan .now) = rw count at (c .before .before .before .before .before .before .before .before .if2 .left) in
+    encode-written (a .network) (a .plan .now) _ _
+    (none-then _ (sym (c .before .before .before .before .before .before .before .before .before .before .before .fault .ensures) ∙ c .before .before .before .before .before .before .before .before .before .before .if1 .left) ∙ none-when 15 (le-ltb _ _ room))
+    count
+    (end-bytes (a .network) (a .plan .now) room (p .result) (p .last .0) (rw (c .before .before .before .before .before .before .put-header .ensures) at (p .ensures .0)) (p .ensures .1))
+
+pub encode-spec : {M : Type 1} → statement M
+encode-spec =
+    tie.close
+    (tie.spec
+    fault-requires
+    returns
+    encoded-length-requires
+    returns-2
+    put-header-requires
+    put-slots-requires
+    slice-write-plan
+    same-length
+    returns-3)

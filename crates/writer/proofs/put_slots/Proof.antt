@@ -1,0 +1,102 @@
+-- `writer::put_slots` meets its contract. The invariant: the plan is written up to here, and what is left are the commands from slot k on.
+-- The measure is the number of slots left. Assumes nothing.
+use mathlib.Core.Path.{_≡_, sym, ap, _∙_}
+use mathlib.Core.Bool.{Bool}
+use Rattle.network.specs.declared.Network.{Network}
+use Prim.Native.Nat.{ℕ, _-_, _≤_}
+use native.Mathlib.Numerals.{add-one}
+use native.Mathlib.Omega.{arith}
+use borrow.Author.Needs.{needs}
+use lib.ListN.{drop}
+use Rattle.network.specs.Record.{hasEdge, firstEnd, secondEnd}
+use Rattle.format.specs.Format.{commandOf, edgeCommand, encodeOf, WrittenTo}
+use Rattle.format.proofs.Writing.{rest, rest-all, rest-none, written-length, slot-room, slot-written, slots-left}
+use Rattle.writer.proofs.put_slots.Statement.{statement}
+use Rattle.writer.proofs.put_slots.Tie as tie
+
+abbrev Inv-loop : tie.InvT-loop
+Inv-loop plan₀ network present at₀ k₀ plan at k =
+    (k ≤ 64) × (WrittenTo (encodeOf network) plan₀ at plan × (drop at (encodeOf network) ≡ rest network k (64 - k)))
+
+abbrev μ-loop : tie.MeasureT-loop
+μ-loop plan₀ network present at₀ k₀ plan at k = 64 - k
+
+loop-holds : tie.Need-loop-holds Inv-loop μ-loop
+loop-holds c = (omega arith, (c .before .before .pre, rest-all (c .before .before .args .t2)))
+
+cast-slot : tie.Need-cast-slot Inv-loop μ-loop
+cast-slot c = search needs
+
+cast-contains : tie.Need-cast-contains Inv-loop μ-loop
+cast-contains c = search needs
+
+contains-requires : tie.Need-contains-requires Inv-loop μ-loop
+contains-requires c κs = search needs
+
+element-copy-out-put-slot : tie.Need-element-copy-out-put-slot Inv-loop μ-loop
+element-copy-out-put-slot c = search needs
+
+element-copy-out-put-slot-2 : tie.Need-element-copy-out-put-slot-2 Inv-loop μ-loop
+element-copy-out-put-slot-2 c = search needs
+
+-- The command of the slot is the definition's.
+command : (N : Network) (k : ℕ) {b : Bool} → b ≡ hasEdge N k → commandOf k (b, firstEnd N k, secondEnd N k) ≡ edgeCommand N k
+unfolding edgeCommand
+command N k e = ap (λ b. commandOf k (b, firstEnd N k, secondEnd N k)) e
+
+put-slot-requires : tie.Need-put-slot-requires Inv-loop μ-loop
+put-slot-requires c κs =
+    let N = c .before .before .before .before .before .before .before .before .args .t2 in
+    let l = c .before .before .before .before .before .loop in
+    slot-room N _ (l .plan) (l .at) (l .k) _ (c .before .before .before .before .loop-test .taken) (command N (l .k) (c .before .before .contains .ensures)) (l .inv .1 .0) (l .inv .1 .1)
+
+add-k : tie.Need-add-k Inv-loop μ-loop
+add-k c = search needs
+
+loop-less : tie.Need-loop-less Inv-loop μ-loop
+loop-less c = search needs
+
+loop-again : tie.Need-loop-again Inv-loop μ-loop
+loop-again c =
+    let N = c .before .before .before .before .before .before .before .before .before .before .before .args .t2 in
+    let l = c .before .before .before .before .before .before .before .before .loop in
+    let put = c .before .before .put-slot in
+    let same = command N (l .k) (c .before .before .before .before .before .contains .ensures) in
+    let h = c .before .before .before .before .before .before .before .loop-test .taken in
+    let written = slot-written N _ (l .plan) (l .at) (l .k) _ h same (l .inv .1 .0) (l .inv .1 .1) in
+    let left = slots-left N _ (l .plan) (l .at) (l .k) _ h same (l .inv .1 .0) (l .inv .1 .1) in (
+      omega arith,
+      (
+        rw (put .ensures .0, put .ensures .1) written,
+        rw (put .ensures .0) (left ∙ ap (λ j. rest N j (64 - j)) (sym (add-one (l .k)))),
+      ),
+    )
+
+same-length : tie.Need-same-length Inv-loop μ-loop
+same-length c = let l = c .before .loop in written-length (encodeOf (c .before .before .before .before .args .t2)) _ (l .at) (l .plan) (l .inv .1 .0)
+
+returns : tie.Need-returns Inv-loop μ-loop
+returns c =
+    let N = c .before .before .before .before .args .t2 in
+    let l = c .before .loop in
+    let all : l .k ≡ 64 = omega arith in
+    (l .inv .1 .0, l .inv .1 .1 ∙ ap (λ j. rest N j (64 - j)) all ∙ rest-none N)
+
+pub put-slots-spec : {M : Type 1} → statement M
+put-slots-spec =
+    tie.close
+    (tie.spec
+    Inv-loop
+    μ-loop
+    loop-holds
+    cast-slot
+    cast-contains
+    contains-requires
+    element-copy-out-put-slot
+    element-copy-out-put-slot-2
+    put-slot-requires
+    add-k
+    loop-less
+    loop-again
+    same-length
+    returns)
