@@ -11,12 +11,8 @@ use lib.Arith.{lt-one}
 use lib.Dec.{eqb, ltb, eqb·zero-suc, eqb·suc-zero, eqb·suc-suc, leb·suc-zero, leb·suc-suc}
 use lib.Pow.{pow-lt, pow-mono, pow-pos, shr-shr}
 use lib.Bits.{bitAnd, bitOr, bitXor, and-shr, or-shr, xor-shr, and-mod, or-mod, xor-mod, and-mask, xor-add-and, or-disjoint, or-lt}
+use Rattle.lists.specs.Counts.{bit}
 use Rattle.bitset.specs.Members.{has, insert, _∖_}
-
--- The digit that a test stands for.
-abbrev pub bit : Bool → ℕ
-bit true = 1
-bit false = 0
 
 -- A law of 0 and of 1 is a law of every digit.
 on-digits : (P : ℕ → Type 0) → P 0 → P 1 → (x : ℕ) → x < 2 → P x

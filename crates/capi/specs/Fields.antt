@@ -5,13 +5,17 @@
 --   Written N lent r n after     writing N into a buffer that held `lent` gives the refusal r and the count n, and leaves `after` in it
 --   Found N r n e        finding the relevant part of N gives the refusal r, the nodes n and the edges e
 --   Judged N c r v       judging the set c in N gives the refusal r and the verdict v, by its number
+--   JudgedMeans N c r v  what the refusal r and the verdict v on c mean
 --   Listing N cuts sides r n cuts′ sides′     listing N into rows that held `cuts` and `sides` gives the refusal r and the count n, and leaves cuts′ and sides′ in them
 use mathlib.Core.List.{List}
+use mathlib.Core.Logic.{_↔_}
 use mathlib.Core.Path.{_≡_}
 use Prim.Native.Nat.{ℕ}
 use Rattle.network.specs.declared.Network.{Network}
+use Rattle.network.specs.Record.{Stored}
 use Rattle.format.specs.Format.{decodeOf, encodedBy, bytesAfter}
-use Rattle.reach.specs.Answers.{relevantOf, verdictOf, refusalNumber, verdictNumber}
+use Rattle.graph.specs.Cuts.{Cut, Mincut}
+use Rattle.reach.specs.Answers.{relevantOf, verdictOf, told}
 use Rattle.listing.specs.List.{listedBy, cutRowsAfter, sideRowsAfter}
 
 abbrev pub assembled : ℕ → ℕ → ℕ → ℕ → List ℕ → List ℕ → Network
@@ -39,8 +43,15 @@ pub record Found (N : Network) (r n e : ℕ) : Type 0 where
   pub edges : e ≡ relevantOf N .edges .0
 
 pub record Judged (N : Network) (c r v : ℕ) : Type 0 where
-  pub refusal : r ≡ refusalNumber (verdictOf N c)
-  pub verdict : v ≡ verdictNumber (verdictOf N c)
+  pub refusal : r ≡ told (verdictOf N c) .refusal
+  pub verdict : v ≡ told (verdictOf N c) .verdict
+
+-- By the definitions of graph theory: each verdict is given exactly if nothing is refused and the set is what it says.
+pub record JudgedMeans (N : Network) (c r v : ℕ) : Type 0 where
+  pub stored : Stored N
+  pub not-cut : (v ≡ 1) ↔ ((r ≡ 0) × (Cut N c → ⊥))
+  pub not-minimal : (v ≡ 2) ↔ ((r ≡ 0) × Cut N c × (Mincut N c → ⊥))
+  pub minimal : (v ≡ 3) ↔ ((r ≡ 0) × Mincut N c)
 
 pub record Listing (N : Network) (cuts sides : List ℕ) (r n : ℕ) (cuts′ sides′ : List ℕ) : Type 0 where
   pub refusal : r ≡ listedBy N cuts sides .refusal

@@ -6,8 +6,11 @@ use edge_set::EdgeSet;
 use network::Network;
 ghost use mathlib.Core.Path.{_≡_};
 ghost use Rattle.network.specs.Record.{faultOf};
-ghost use Rattle.rows.specs.Widths.{widthsOf};
-ghost use Rattle.capi.specs.Fields.{assembled, Read, Written, Found, Judged, Listing};
+ghost use Rattle.widths.specs.Widths.{widthsOf};
+ghost use Rattle.format.specs.Meaning.{WrittenMeans};
+ghost use Rattle.reach.specs.Answers.{PartMeans};
+ghost use Rattle.listing.specs.List.{ListMeans};
+ghost use Rattle.capi.specs.Fields.{assembled, Read, Written, Found, Judged, JudgedMeans, Listing};
 
 // Reads a plan. Gives the refusal's number, 0 if there is none, and fills in the record, all zero on refusal.
 #[no_mangle]
@@ -88,6 +91,7 @@ pub extern "C" fn cutlist_encode(
     count: &mut usize,
 ) -> u8
     ensures { λ r. ⌜ Written (assembled nodes source sink present (now (first .entry)) (now (second .entry))) (now (plan .entry)) r (now (count .exit)) (now (plan .exit)) ⌝ }
+    ensures means { λ r. ⌜ WrittenMeans (assembled nodes source sink present (now (first .entry)) (now (second .entry))) r (now (count .exit)) (now (plan .exit)) ⌝ }
 {
     let encoded = writer::encode(assemble(nodes, source, sink, present, first, second), plan);
     *count = encoded.count;
@@ -107,6 +111,7 @@ pub extern "C" fn cutlist_relevant(
     edge_set: &mut u64,
 ) -> u8
     ensures { λ r. ⌜ Found (assembled nodes source sink present (now (first .entry)) (now (second .entry))) r (now («node_set» .exit)) (now («edge_set» .exit)) ⌝ }
+    ensures means { λ r. ⌜ PartMeans (assembled nodes source sink present (now (first .entry)) (now (second .entry))) r (now («node_set» .exit)) (now («edge_set» .exit)) ⌝ }
 {
     let part = reach::relevant(assemble(nodes, source, sink, present, first, second));
     let relevant_nodes = part.nodes;
@@ -130,6 +135,7 @@ pub extern "C" fn cutlist_classify(
     verdict: &mut u8,
 ) -> u8
     ensures { λ r. ⌜ Judged (assembled nodes source sink present (now (first .entry)) (now (second .entry))) set r (now (verdict .exit)) ⌝ }
+    ensures means { λ r. ⌜ JudgedMeans (assembled nodes source sink present (now (first .entry)) (now (second .entry))) set r (now (verdict .exit)) ⌝ }
 {
     let judged = reach::classify(
         assemble(nodes, source, sink, present, first, second),
@@ -155,6 +161,8 @@ pub extern "C" fn cutlist_list(
 ) -> u8
     ensures { λ r. ⌜ Listing (assembled nodes source sink present (now (first .entry)) (now (second .entry))) (now (cuts .entry)) (now (sides .entry))
         r (now (count .exit)) (now (cuts .exit)) (now (sides .exit)) ⌝ }
+    ensures means { λ r. ⌜ ListMeans (assembled nodes source sink present (now (first .entry)) (now (second .entry))) (now (cuts .entry)) (now (sides .entry))
+        r (now (count .exit)) (now (cuts .exit)) (now (sides .exit)) ⌝ }
 {
     let hall = assemble(nodes, source, sink, present, first, second);
     let listed = listing::list(hall, cuts, sides);
@@ -167,6 +175,6 @@ pub extern "C" fn cutlist_list(
 pub extern "C" fn cutlist_widths(cuts: &[u64], table: &mut [u64; 65])
     ensures { λ _. ⌜ now (table .exit) ≡ widthsOf (now (cuts .entry)) ⌝ }
 {
-    let counts = rows::width_table(cuts);
+    let counts = widths::width_table(cuts);
     *table = counts;
 }

@@ -9,11 +9,11 @@ use native.Mathlib.Nat.{lt-of-lt-of-le}
 use native.Mathlib.Omega.{arith}
 use lib.Dec.{T}
 use lib.ListN.{length}
+use Rattle.lists.specs.Distinct.{Distinct}
 use Rattle.bitset.specs.Members.{_∖_, size}
 use Rattle.bitset.proofs.Subsets.{zero-⊆}
 use Rattle.bitset.proofs.Sets.{in-insert, in-drop, not-zero, size-drop}
 use Rattle.network.specs.declared.Network.{Network}
-use Rattle.graph.specs.Paths.{Distinct}
 use Rattle.graph.specs.Cuts.{Mincut}
 use Rattle.graph.specs.SourceSides.{SourceSide}
 use Rattle.graph.specs.Relevant.{relevantNodes, sourceSideOf, boundaryOf}

@@ -1,14 +1,13 @@
 -- The complete list is unique, and two networks have equal lists exactly if they have the same minpaths.
 -- Assumes bounded networks for the second.
 use mathlib.Core.Path.{_≡_}
-use mathlib.Core.List.{List, [], _∷_, List·Nodup, nodup-nil, nodup-cons}
-use mathlib.Core.HLevel.{⊥-prop}
-use mathlib.Core.Logic.{_↔_, Iff·trans, Iff·symm, ∥∥₁-elim}
+use mathlib.Core.List.{List}
+use mathlib.Core.Logic.{_↔_, Iff·trans, Iff·symm}
 use Prim.Native.Nat.{ℕ}
 use Rattle.lists.proofs.Rising.{rising-unique}
 use Rattle.network.specs.declared.Network.{Network}
 use Rattle.graph.specs.Reach.{Bounded}
-use Rattle.graph.specs.Paths.{Distinct, SameMinpaths}
+use Rattle.graph.specs.Paths.{SameMinpaths}
 use Rattle.graph.proofs.Cuts.{same-minpaths}
 use Rattle.cuts.specs.Lists.{Lists}
 
@@ -23,9 +22,3 @@ lists-equal N M B C l k p q =
       λ e. same .1 (λ c. Iff·trans (Iff·symm (p .members c)) (rw e (q .members c))),
       λ s. rising-unique l k (p .rising) (q .rising) (λ c. Iff·trans (p .members c) (Iff·trans (same .0 s c) (Iff·symm (q .members c)))),
     )
-
--- A list without a number twice.
-pub distinct-nodup : (l : List ℕ) → Distinct l → List·Nodup l
-unfolding Distinct
-distinct-nodup [] d = nodup-nil
-distinct-nodup (x ∷ l) d = nodup-cons .1 (λ m. ∥∥₁-elim m ⊥-prop (d .0), distinct-nodup l (d .1))

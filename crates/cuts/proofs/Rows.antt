@@ -10,15 +10,15 @@ use native.Mathlib.Omega.{arith}
 use lib.Bits.{bitAnd}
 use lib.Dec.{T}
 use lib.ListN.{length, length-append}
+use Rattle.lists.specs.Distinct.{Distinct}
 use Rattle.bitset.specs.Members.{has, _⊆_, _∈_}
 use Rattle.bitset.proofs.Subsets.{subset-and}
 use Rattle.bitset.proofs.Tests.{T-eqb}
 use Rattle.bitset.proofs.Sets.{∈-dec, in-insert}
 use Rattle.network.specs.declared.Network.{Network}
-use Rattle.graph.specs.Paths.{Distinct}
 use Rattle.graph.specs.Cuts.{only}
 use Rattle.graph.specs.Relevant.{boundaryOf}
-use Rattle.graph.proofs.Walks.{distinct-append}
+use Rattle.lists.proofs.Distinct.{distinct-append}
 use Rattle.graph.proofs.Sound.{Sound}
 use Rattle.graph.proofs.Relevant.{in-relevantNodes, relevant-lt}
 use Rattle.graph.proofs.Correspondence.{boundary-injective}

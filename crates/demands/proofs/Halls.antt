@@ -4,26 +4,31 @@ use mathlib.Core.Path.{_≡_, refl, ap₂}
 use mathlib.Core.Bool.{Bool, true, false, _&&_, Bool·beq}
 use mathlib.Core.List.{List, [], _∷_, List·Memᴰ}
 use mathlib.Core.Logic.{_↔_, Iff·rfl, Iff·trans}
-use Prim.Native.Nat.{ℕ}
+use Prim.Native.Nat.{ℕ, _^_, _<_}
+use native.Mathlib.Omega.{arith}
 use lib.Dec.{T, eqb}
+use lib.ListN.{length, getD}
+use Rattle.lists.proofs.Places.{mem-at}
 use Rattle.bitset.specs.Members.{has, insert, _∖_, size, subsets, membersFrom}
 use Rattle.bitset.proofs.Tests.{T-and, T-eqb}
 use Rattle.network.specs.declared.Network.{Network}
 use Rattle.network.specs.Record.{_when_, _then_, sizeFault, pairFault, bare, withEdge}
 use Rattle.format.specs.Format.{numberFault, sizeRefusal, terminalsRefusal, edgeRefusal, endRefusal, sizeStep, terminalsStep, edgeStep, edges, afterTerminals, afterSize, decodeOf}
 use Rattle.format.proofs.Reading.{accepts, decode-plan}
-use Rattle.rows.specs.Permutation.{countIf}
-use Rattle.rows.specs.Widths.{tabulate, widthsOf}
+use Rattle.lists.specs.Counts.{countIf}
+use Rattle.widths.specs.Widths.{tabulate, widthsOf}
 use Rattle.graph.specs.Cuts.{only, Cut, Mincut}
 use Rattle.graph.specs.Reach.{addIf, across, roundOver, rounds, reachOf}
 use Rattle.graph.specs.CutTests.{severed, every, cutTest, allNeeded, mincutTest}
 use Rattle.graph.specs.Relevant.{chosen, edgesAt, edgesWithin, past, pastAll, relevantNodes, relevantEdges, sourceSideOf}
 use Rattle.graph.proofs.Tests.{T-every}
 use Rattle.graph.proofs.Sound.{Sound, accepted-sound}
+use Rattle.graph.proofs.Reach.{in-reach-single}
 use Rattle.graph.proofs.Cuts.{cutTest-iff, mincutTest-iff}
+use Rattle.graph.proofs.Relevant.{in-relevantNodes, in-relevantEdges}
 use Rattle.listing.specs.List.{passing, mincuts, sourceSides}
-use Rattle.demands.specs.Halls.{Judged, Hall, bridge, barCable, spur, hangingTriangle, noCable, twoCables, inARow, exchanged, halls, networkOf, widthTable, same, judgedTest, hallTest, Established}
-use Rattle.demands.proofs.DemandTwo.{mincuts-complete}
+use Rattle.demands.specs.Halls.{Judged, Hall, bridge, barCable, spur, hangingTriangle, noCable, twoCables, inARow, exchanged, halls, networkOf, widthTable, same, judgedTest, hallTests, hallTest, Established}
+use Rattle.listing.proofs.Meaning.{mincuts-complete}
 
 -- ---- the test is right
 
@@ -53,32 +58,29 @@ judged-right N S j t =
 
 -- A hall that passes is what the table says.
 hall-right : (h : Hall) → T (hallTest h) → Established h
-unfolding hallTest
+unfolding hallTest hallTests
 hall-right h t =
     let N : Network = networkOf h in
-    let widths : Bool = same (widthsOf (h .cuts)) (widthTable h) in
-    let sets : Bool = every (judgedTest N) (h .judged) in
-    let sides : Bool = same (sourceSides N) (h .sides) in
-    let cuts : Bool = same (mincuts N) (h .cuts) in
-    let (read, t₁) = T-and (eqb (decodeOf (h .plan) .refusal) 0) (cuts && (sides && (sets && widths))) .0 t in
-    let (t-cuts, t₂) = T-and cuts (sides && (sets && widths)) .0 t₁ in
-    let (t-sides, t₃) = T-and sides (sets && widths) .0 t₂ in
-    let (t-sets, t-widths) = T-and sets widths .0 t₃ in
-    let ok : decodeOf (h .plan) .refusal ≡ 0 = T-eqb (decodeOf (h .plan) .refusal) 0 .0 read in
+    let passed : (i : ℕ) → i < length (hallTests h) → T (getD (hallTests h) i true) = λ i l.
+    T-every (λ (b : Bool). b) (hallTests h) .0 t (getD (hallTests h) i true) (mem-at (hallTests h) i true l) in
+    let ok : decodeOf (h .plan) .refusal ≡ 0 = T-eqb (decodeOf (h .plan) .refusal) 0 .0 (passed 0 (omega arith)) in
     let plan = decode-plan (h .plan) N (accepts (h .plan) ok) in
     let S : Sound N = accepted-sound N (plan .stored) (plan .accepted) in
     record {
       accepted = ok;
-      complete = rw (← T-same (mincuts N) (h .cuts) t-cuts, ← T-same (sourceSides N) (h .sides) t-sides) (mincuts-complete N S);
-      judged = λ j m. judged-right N S j (T-every (judgedTest N) (h .judged) .0 t-sets j m);
-      widths = T-same (widthsOf (h .cuts)) (widthTable h) t-widths;
+      complete = rw (← T-same (mincuts N) (h .cuts) (passed 1 (omega arith)), ← T-same (sourceSides N) (h .sides) (passed 2 (omega arith))) (mincuts-complete N S);
+      judged = λ j m. judged-right N S j (T-every (judgedTest N) (h .judged) .0 (passed 3 (omega arith)) j m);
+      widths = T-same (widthsOf (h .cuts)) (widthTable h) (passed 4 (omega arith));
+      reached = λ v. rw (← T-eqb (reachOf N (2 ^ N .source)) (h .reached) .0 (passed 5 (omega arith))) (in-reach-single N (S .bounded) (N .source) v);
+      nodes = λ v. rw (← T-eqb (relevantNodes N) (h .nodes) .0 (passed 6 (omega arith))) (in-relevantNodes N S v);
+      edges = λ e. rw (← T-eqb (relevantEdges N) (h .edges) .0 (passed 7 (omega arith))) (in-relevantEdges N S e);
     }
 
 -- ---- the table
 
 -- Every hall of the table passes the test.
 halls-pass : T (every hallTest halls)
-unfolding has insert _∖_ size subsets countIf tabulate widthsOf _when_ _then_ sizeFault pairFault bare withEdge numberFault sizeRefusal terminalsRefusal edgeRefusal endRefusal sizeStep terminalsStep edgeStep edges afterTerminals afterSize decodeOf only membersFrom addIf across roundOver rounds reachOf severed every cutTest allNeeded mincutTest chosen edgesAt edgesWithin past pastAll relevantNodes relevantEdges sourceSideOf passing mincuts bridge barCable spur hangingTriangle noCable twoCables inARow exchanged halls same judgedTest hallTest
+unfolding has insert _∖_ size subsets countIf tabulate widthsOf _when_ _then_ sizeFault pairFault bare withEdge numberFault sizeRefusal terminalsRefusal edgeRefusal endRefusal sizeStep terminalsStep edgeStep edges afterTerminals afterSize decodeOf only membersFrom addIf across roundOver rounds reachOf severed every cutTest allNeeded mincutTest chosen edgesAt edgesWithin past pastAll relevantNodes relevantEdges sourceSideOf passing mincuts bridge barCable spur hangingTriangle noCable twoCables inARow exchanged halls same judgedTest hallTests hallTest
 halls-pass = tt
 
 -- So what it says of each hall is established.

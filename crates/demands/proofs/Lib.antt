@@ -1,5 +1,5 @@
 -- The demands, then the halls.
-pub mod Onto
+pub mod DemandOne
 pub mod DemandTwo
 pub mod DemandThree
 pub mod Halls

@@ -1,28 +1,34 @@
 -- The starred halls of the paper ("Halls to try"): a table, and the test of it, which computes.
 --
 --   Judged               a judged set: its number, whether it is a cut, and whether it is a mincut
---   Hall                 a plan in bytes, its cuts and sides, the sets judged on it, and how many cuts have width 0, 1, ..
---   halls                the table; sides and widths that the paper leaves out are worked out by hand
+--   Hall                 a plan in bytes, its cuts and sides, the sets judged on it, how many cuts have width 0, 1, .., the points that the
+--                        server reaches, and the relevant nodes and edges
+--   halls                the table; what the paper leaves out is worked out by hand
 --   networkOf h          the record read from the bytes
 --   widthTable h         the 65 counts of the width table
 --   same l m             whether two lists are equal
 --   judgedTest N j       whether what the table says of a judged set is what is computed
---   hallTest h           whether all that the table says of a hall is what is computed from its bytes
+--   hallTests h          for each thing that the table says of a hall, whether it is what is computed from its bytes
+--   hallTest h           whether all of it is
 --   Established h        what the table says of a hall, by the definitions
 use mathlib.Core.Bool.{Bool, true, false, _&&_, Bool·beq}
 use mathlib.Core.List.{List, [], _∷_, _++_, List·Memᴰ}
 use mathlib.Core.Logic.{_↔_}
 use mathlib.Core.Path.{_≡_}
-use Prim.Native.Nat.{ℕ, _-_}
+use Prim.Native.Nat.{ℕ, _-_, _^_}
 use lib.Dec.{T, eqb}
 use lib.ListN.{length, replicate}
+use Rattle.bitset.specs.Members.{_∈_}
 use Rattle.network.specs.declared.Network.{Network}
 use Rattle.format.specs.Format.{decodeOf}
-use Rattle.rows.specs.Widths.{widthsOf}
-use Rattle.graph.specs.Cuts.{Cut, Mincut}
+use Rattle.widths.specs.Widths.{widthsOf}
+use Rattle.graph.specs.Paths.{Connected}
+use Rattle.graph.specs.Cuts.{Cut, Mincut, RelevantEdge, RelevantNode}
+use Rattle.graph.specs.Lists.{CompleteList}
+use Rattle.graph.specs.Reach.{reachOf}
 use Rattle.graph.specs.CutTests.{every, cutTest, mincutTest}
+use Rattle.graph.specs.Relevant.{relevantNodes, relevantEdges}
 use Rattle.listing.specs.List.{mincuts, sourceSides}
-use Rattle.demands.specs.Lists.{CompleteList}
 
 pub record Judged : Type 0 where
   pub set : ℕ
@@ -35,6 +41,9 @@ pub record Hall : Type 0 where
   pub sides : List ℕ
   pub judged : List Judged
   pub widths : List ℕ
+  pub reached : ℕ
+  pub nodes : ℕ
+  pub edges : ℕ
 
 -- ---- the table
 
@@ -52,6 +61,9 @@ bridge = record {
       ∷ record { set = 14; cut = true; mincut = true }
       ∷ [];
   widths = 0 ∷ 0 ∷ 2 ∷ 2 ∷ [];
+  reached = 15;
+  nodes = 15;
+  edges = 31;
 }
 
 -- Room 3, cables 0: 0-1, 1: 0-2, 2: 1-2, 3: 1-3.
@@ -62,6 +74,9 @@ barCable = record {
   sides = 1 ∷ 5 ∷ 7 ∷ [];
   judged = [];
   widths = 0 ∷ 1 ∷ 2 ∷ [];
+  reached = 15;
+  nodes = 15;
+  edges = 15;
 }
 
 -- Room 2, cables 0: 0-1, 1: 1-2, 2: 1-3.
@@ -72,9 +87,12 @@ spur = record {
   sides = 1 ∷ 3 ∷ [];
   judged = [];
   widths = 0 ∷ 2 ∷ [];
+  reached = 15;
+  nodes = 7;
+  edges = 3;
 }
 
--- Room 2, cables 0: 0-1, 1: 1-2, 2: 1-3, 3: 3-4, 4: 4-1.
+-- Room 2, cables 0: 0-1, 1: 1-2, 2: 1-3, 3: 3-4, 4: 4-1. Points 3 and 4 are reached and not relevant.
 unfoldable pub hangingTriangle : Hall
 hangingTriangle = record {
   plan = 0x50 ∷ 5 ∷ 0x53 ∷ 0 ∷ 2 ∷ 0x43 ∷ 0 ∷ 0 ∷ 1 ∷ 0x43 ∷ 1 ∷ 1 ∷ 2 ∷ 0x43 ∷ 2 ∷ 1 ∷ 3 ∷ 0x43 ∷ 3 ∷ 3 ∷ 4 ∷ 0x43 ∷ 4 ∷ 4 ∷ 1 ∷ 0x45 ∷ [];
@@ -82,6 +100,9 @@ hangingTriangle = record {
   sides = 1 ∷ 3 ∷ [];
   judged = [];
   widths = 0 ∷ 2 ∷ [];
+  reached = 31;
+  nodes = 7;
+  edges = 3;
 }
 
 -- Two points, no cable.
@@ -92,6 +113,9 @@ noCable = record {
   sides = 1 ∷ [];
   judged = [];
   widths = 1 ∷ [];
+  reached = 1;
+  nodes = 3;
+  edges = 0;
 }
 
 -- Two points, cables 0 and 1.
@@ -102,6 +126,9 @@ twoCables = record {
   sides = 1 ∷ [];
   judged = [];
   widths = 0 ∷ 0 ∷ 1 ∷ [];
+  reached = 3;
+  nodes = 3;
+  edges = 3;
 }
 
 -- Room 2, 0-1 by cable 0 and 1-2 by cable 1; and the same with the cables exchanged.
@@ -112,6 +139,9 @@ inARow = record {
   sides = 1 ∷ 3 ∷ [];
   judged = [];
   widths = 0 ∷ 2 ∷ [];
+  reached = 7;
+  nodes = 7;
+  edges = 3;
 }
 
 unfoldable pub exchanged : Hall
@@ -121,6 +151,9 @@ exchanged = record {
   sides = 3 ∷ 1 ∷ [];
   judged = [];
   widths = 0 ∷ 2 ∷ [];
+  reached = 7;
+  nodes = 7;
+  edges = 3;
 }
 
 unfoldable pub halls : List Hall
@@ -144,13 +177,20 @@ same (x ∷ l) (y ∷ m) = eqb x y && same l m
 unfoldable pub judgedTest : Network → Judged → Bool
 judgedTest N j = Bool·beq (cutTest N (j .set)) (j .cut) && Bool·beq (mincutTest N (j .set)) (j .mincut)
 
-unfoldable pub hallTest : Hall → Bool
-hallTest h =
+unfoldable pub hallTests : Hall → List Bool
+hallTests h =
     eqb (decodeOf (h .plan) .refusal) 0
-    && (same (mincuts (networkOf h)) (h .cuts)
-    && (same (sourceSides (networkOf h)) (h .sides)
-    && (every (judgedTest (networkOf h)) (h .judged)
-    && same (widthsOf (h .cuts)) (widthTable h))))
+    ∷ same (mincuts (networkOf h)) (h .cuts)
+    ∷ same (sourceSides (networkOf h)) (h .sides)
+    ∷ every (judgedTest (networkOf h)) (h .judged)
+    ∷ same (widthsOf (h .cuts)) (widthTable h)
+    ∷ eqb (reachOf (networkOf h) (2 ^ networkOf h .source)) (h .reached)
+    ∷ eqb (relevantNodes (networkOf h)) (h .nodes)
+    ∷ eqb (relevantEdges (networkOf h)) (h .edges)
+    ∷ []
+
+unfoldable pub hallTest : Hall → Bool
+hallTest h = every (λ b. b) (hallTests h)
 
 -- ---- what it establishes
 
@@ -159,3 +199,6 @@ pub record Established (h : Hall) : Type 0 where
   pub complete : CompleteList (networkOf h) (length (h .cuts)) (h .cuts) (h .sides)
   pub judged : (j : Judged) → List·Memᴰ j (h .judged) → (T (j .cut) ↔ Cut (networkOf h) (j .set)) × (T (j .mincut) ↔ Mincut (networkOf h) (j .set))
   pub widths : widthsOf (h .cuts) ≡ widthTable h
+  pub reached : (v : ℕ) → (v ∈ h .reached) ↔ Connected (networkOf h) (networkOf h .source) v
+  pub nodes : (v : ℕ) → (v ∈ h .nodes) ↔ RelevantNode (networkOf h) v
+  pub edges : (e : ℕ) → (e ∈ h .edges) ↔ RelevantEdge (networkOf h) e

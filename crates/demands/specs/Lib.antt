@@ -1,3 +1,4 @@
--- The words of the demands, and the table of the starred halls.
-pub mod Lists
+-- The demands, how each call ends, and the table of the starred halls.
+pub mod Endings
+pub mod Demands
 pub mod Halls

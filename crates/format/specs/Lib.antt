@@ -1,2 +1,3 @@
 -- The bytes of a network, read and written.
 pub mod Format
+pub mod Meaning

@@ -4,9 +4,10 @@ use mathlib.Core.Path.{_≡_, refl, sym}
 use mathlib.Core.List.{List, [], _∷_, _++_, List·Memᴰ, List·Memᴰ·head, List·Memᴰ·tail, List·Memᴰ·not-nil, List·Memᴰ·cases-cons, List·Memᴰ·append-cases, List·Memᴰ·eq-of-singleton, Memᴰ·append-right, Memᴰ·cast}
 use mathlib.Core.Logic.{_⊎_, inl, inr, ⊎-swap}
 use Prim.Native.Nat.{ℕ}
+use Rattle.lists.specs.Distinct.{Distinct}
 use Rattle.bitset.specs.Members.{_⊆_, _∈_}
 use Rattle.network.specs.declared.Network.{Network}
-use Rattle.graph.specs.Paths.{Joins, Step, Leads, Distinct, nodesFrom, Simple, edgesOf}
+use Rattle.graph.specs.Paths.{Joins, Step, Leads, nodesFrom, Simple, edgesOf}
 use Rattle.graph.proofs.Walks.{mem-dec, reached, edges-cons, edges-append, reached-within, nodes-append, simple-append, back, edges-back, leads-append, leads-back, nodes-back, split, simple-after, shorten}
 use Rattle.graph.proofs.Nodes.{nodes-within, simple-back}
 

@@ -4,9 +4,10 @@ use mathlib.Core.Path.{_≡_, refl, sym, ap, ap₂, _∙_}
 use mathlib.Core.List.{List, [], _∷_, Memᴰ·cast}
 use mathlib.Core.Logic.{inl, inr, _↔_}
 use Prim.Native.Nat.{ℕ}
+use Rattle.lists.specs.Distinct.{Distinct}
 use Rattle.bitset.specs.Members.{_⊆_, _∈_}
 use Rattle.network.specs.declared.Network.{Network}
-use Rattle.graph.specs.Paths.{Joins, Step, Leads, Distinct, Simple, edgesOf, Minpath, Connected}
+use Rattle.graph.specs.Paths.{Joins, Step, Leads, Simple, edgesOf, Minpath, Connected}
 use Rattle.graph.specs.Cuts.{only}
 use Rattle.graph.proofs.Walks.{edges-nil, edges-cons, edges-within, joins-other, end-met, ends-met, shorten, edges-present, leads-only, leads-within}
 

@@ -4,10 +4,11 @@ use mathlib.Core.Path.{_≡_, refl, sym, _∙_}
 use mathlib.Core.List.{List, [], _∷_, List·Memᴰ, List·Memᴰ·head, List·Memᴰ·not-nil, List·Memᴰ·eq-of-singleton}
 use mathlib.Core.Logic.{inl, inr, ⊎-elim, _↔_, _≢_, Ne·symm}
 use Prim.Native.Nat.{ℕ}
+use Rattle.lists.specs.Distinct.{Distinct}
 use Rattle.bitset.specs.Members.{_∈_}
 use Rattle.network.specs.declared.Network.{Network}
 use Rattle.network.specs.Record.{firstEnd, secondEnd}
-use Rattle.graph.specs.Paths.{Joins, Step, Leads, Distinct, nodesFrom, Simple, edgesOf}
+use Rattle.graph.specs.Paths.{Joins, Step, Leads, nodesFrom, Simple, edgesOf}
 use Rattle.graph.specs.Cuts.{RelevantEdge, RelevantNode}
 use Rattle.graph.proofs.Walks.{edges-nil, edges-cons, joins-sym, joins-ends, ends-met, edges-present}
 use Rattle.graph.proofs.EdgeSets.{joins-stored}

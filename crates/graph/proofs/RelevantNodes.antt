@@ -5,8 +5,9 @@ use mathlib.Core.List.{List, [], _∷_, _++_, List·Memᴰ, List·Memᴰ·head, 
 use mathlib.Core.Logic.{_⊎_, inl, inr, ⊎-swap, _↔_, _≢_, Ne·symm}
 use Prim.Native.Nat.{ℕ}
 use native.Mathlib.Decide.{ℕ-discrete}
+use Rattle.lists.specs.Distinct.{Distinct}
 use Rattle.network.specs.declared.Network.{Network}
-use Rattle.graph.specs.Paths.{Joins, Step, Leads, Distinct, nodesFrom, Simple, edgesOf}
+use Rattle.graph.specs.Paths.{Joins, Step, Leads, nodesFrom, Simple, edgesOf}
 use Rattle.graph.specs.Cuts.{OnMinpath, RelevantEdge, RelevantNode}
 use Rattle.graph.proofs.Walks.{mem-dec, nodes-append, simple-append, back, joins-sym, end-met, ends-met, leads-append, leads-back, nodes-back, split, shorten}
 use Rattle.graph.proofs.Minpaths.{walk-minpath}

@@ -5,11 +5,13 @@ use mathlib.Core.List.{List, [], _∷_, _++_, map, map-append, List·Memᴰ, Lis
 use mathlib.Core.Logic.{_⊎_, inl, inr, ⊎-swap, ⊎-map, _↔_, Iff·rfl}
 use Prim.Native.Nat.{ℕ}
 use native.Mathlib.Decide.{ℕ-discrete}
+use Rattle.lists.specs.Distinct.{Distinct}
+use Rattle.lists.proofs.Distinct.{distinct-append}
 use Rattle.bitset.specs.Members.{_⊆_, _∈_}
 use Rattle.bitset.proofs.Members.{has-zero}
 use Rattle.bitset.proofs.Sets.{in-insert}
 use Rattle.network.specs.declared.Network.{Network}
-use Rattle.graph.specs.Paths.{Joins, Step, Leads, Distinct, nodesFrom, Simple, edgesOf}
+use Rattle.graph.specs.Paths.{Joins, Step, Leads, nodesFrom, Simple, edgesOf}
 use Rattle.graph.specs.Cuts.{only}
 
 -- ---- lists of nodes
@@ -23,23 +25,6 @@ mem-dec x (y ∷ l) = go (ℕ-discrete x y) (mem-dec x l)
     go (yes e) d = yes (List·Memᴰ·head e)
     go (no n) (yes m) = yes (List·Memᴰ·tail m)
     go (no n) (no k) = no (λ m. elim (List·Memᴰ·cases-cons m) [ inl e ↦ n e | inr m′ ↦ k m′ ])
-
--- A joined list has no element twice exactly if neither part has and no element stands in both.
-pub distinct-append : (k l : List ℕ)
-    → Distinct (k ++ l) ↔ (Distinct k × Distinct l × ((y : ℕ) → List·Memᴰ y k → List·Memᴰ y l → ⊥))
-unfolding Distinct
-distinct-append [] l = (λ d. (tt, d, λ y m n. List·Memᴰ·not-nil m), λ d. d .1)
-distinct-append (x ∷ k) l = (
-  λ d. let r = distinct-append k l .0 (d .1) in (
-    (λ m. d .0 (Memᴰ·append-left l m), r .0),
-    r .1,
-    λ y m n. elim (List·Memᴰ·cases-cons m) [ inl e ↦ d .0 (Memᴰ·append-right k (Memᴰ·cast (sym e) n)) | inr m′ ↦ r .2 y m′ n ],
-  ),
-  λ d. (
-    λ m. elim (List·Memᴰ·append-cases k m) [ inl m′ ↦ d .0 .0 m′ | inr n ↦ d .2 x (List·Memᴰ·head refl) n ],
-    distinct-append k l .1 (d .0 .1, d .1, λ y m n. d .2 y (List·Memᴰ·tail m) n),
-  ),
-)
 
 -- ---- the edges and nodes of a list of steps
 

@@ -2,7 +2,6 @@
 --
 --   Joins N e u v        the edge e joins the nodes u and v
 --   Leads N u p v        the steps p, each along an edge to its other end, lead from u to v: a walk
---   Distinct l           no element stands in l twice
 --   Simple u p           the steps p from u on meet no node twice: a simple path
 --   edgesOf p            the set of the edges that the steps p take
 --   Minpath N r          r is the edge set of a simple path from source to sink (the paper's route)
@@ -13,6 +12,7 @@ use mathlib.Core.Logic.{_⊎_, _↔_}
 use mathlib.Core.Path.{_≡_}
 use Prim.Native.Nat.{ℕ}
 use lib.Dec.{T}
+use Rattle.lists.specs.Distinct.{Distinct}
 use Rattle.bitset.specs.Members.{insert}
 use Rattle.network.specs.declared.Network.{Network}
 use Rattle.network.specs.Record.{hasEdge, firstEnd, secondEnd}
@@ -31,10 +31,6 @@ pub record Step : Type 0 where
 unfoldable pub Leads : Network → ℕ → List Step → ℕ → Type 0
 Leads N u [] v = u ≡ v
 Leads N u (s ∷ p) v = Joins N (s .edge) u (s .to) × Leads N (s .to) p v
-
-unfoldable pub Distinct : List ℕ → Type 0
-Distinct [] = Unit {0}
-Distinct (x ∷ l) = (List·Memᴰ x l → ⊥) × Distinct l
 
 -- The nodes that the steps p from u on meet.
 abbrev pub nodesFrom : ℕ → List Step → List ℕ

@@ -9,7 +9,7 @@ use lib.ListN.{length, take, length-map}
 use lib.Seq.{sets}
 use Rattle.network.specs.declared.Network.{Network}
 use Rattle.network.specs.Record.{unlessRefused, faultOf, Stored}
-use Rattle.rows.specs.Sorted.{Sorted, SortedIfPaired}
+use Rattle.listing.specs.Sorted.{Sorted, SortedIfPaired}
 use Rattle.graph.proofs.Sound.{Sound, accepted-sound}
 use Rattle.cuts.specs.Enumeration.{Row, cutsOf, sidesOf, rows}
 use Rattle.listing.specs.declared.Listed.{Listed}
@@ -47,7 +47,7 @@ completed : (N : Network) (cuts sides : List ℕ) → listRefusal N cuts sides �
 completed N cuts sides e = answered-by N cuts sides 0 e
 
 -- The answer's refusal is the call's.
-answer-refusal : (N : Network) (cuts sides : List ℕ) → listedBy N cuts sides .refusal ≡ listRefusal N cuts sides
+pub answer-refusal : (N : Network) (cuts sides : List ℕ) → listedBy N cuts sides .refusal ≡ listRefusal N cuts sides
 unfolding listedBy
 answer-refusal N cuts sides = go (listRefusal N cuts sides)
   where

@@ -1,12 +1,13 @@
--- The list, in reading order: what the complete list is, the enumeration as the code makes it, the call.
+-- The list, in reading order: rows and their order, what the complete list is, the call.
+pub mod Pairs
+pub mod Spans
+pub mod Split
+pub mod Sorting
+pub mod Order
 pub mod Mincuts
 pub mod Rows
-pub mod Filling
-pub mod Spread
-pub mod Putting
-pub mod Halves
-pub mod First
 pub mod Onto
 pub mod Refusals
 pub mod Call
+pub mod Meaning
 pub mod Given

@@ -69,7 +69,7 @@ abbrev refusalBy : ℕ → Bool → Bool → ℕ
 refusalBy f paired many = f then 11 when not paired then 12 when many
 
 -- The four cases of a call.
-data Case (N : Network) (cuts sides : List ℕ) : Type 0 where
+pub data Case (N : Network) (cuts sides : List ℕ) : Type 0 where
   faulty : (faultOf N ≡ 0 → ⊥) → Case N cuts sides
   unpaired : faultOf N ≡ 0 → (length cuts ≡ length sides → ⊥) → Case N cuts sides
   outnumbered : faultOf N ≡ 0 → length cuts ≡ length sides → length cuts < length (mincuts N) → Case N cuts sides
@@ -77,7 +77,7 @@ data Case (N : Network) (cuts sides : List ℕ) : Type 0 where
 
 module _ (N : Network) (cuts sides : List ℕ) where
   -- Every call is one of the cases.
-  call-case : Case N cuts sides
+  pub call-case : Case N cuts sides
   call-case = go (ℕ-discrete (faultOf N) 0) (ℕ-discrete (length cuts) (length sides)) (decLt (length cuts) (length (mincuts N)))
     where
       go : Dec (faultOf N ≡ 0) → Dec (length cuts ≡ length sides) → Dec (length cuts < length (mincuts N)) → Case N cuts sides

@@ -1,4 +1,4 @@
 -- The definitions that the contracts of `listing` cite.
 pub mod List
-pub mod Tables
-pub mod Rows
+pub mod Sorted
+pub mod Parts

@@ -7,14 +7,18 @@
 --   listRefusal N cuts sides     the call's refusal for a network and lent rows, 0 if there is none
 --   listedBy N cuts sides        its answer
 --   cutRowsAfter N cuts sides, sideRowsAfter N cuts sides     the lent rows afterwards
+--   ListMeans N cuts sides r n cuts′ sides′     what it means that the call, lent `cuts` and `sides`, gave the refusal r and the count n and left cuts′ and sides′
 use mathlib.Core.Bool.{Bool, true, false, not}
 use mathlib.Core.List.{List, [], _∷_, _++_, map}
+use mathlib.Core.Logic.{_↔_}
+use mathlib.Core.Path.{_≡_}
 use Prim.Native.Nat.{ℕ, zero, suc}
 use lib.Dec.{ltb, eqb}
 use lib.ListN.{length, drop}
 use Rattle.bitset.specs.Members.{subsets}
 use Rattle.network.specs.declared.Network.{Network}
-use Rattle.network.specs.Record.{_when_, _then_, unlessRefused, faultOf}
+use Rattle.network.specs.Record.{_when_, _then_, unlessRefused, faultOf, Stored}
+use Rattle.graph.specs.Lists.{CompleteList, Outnumber}
 use Rattle.graph.specs.CutTests.{mincutTest}
 use Rattle.graph.specs.Relevant.{sourceSideOf}
 use Rattle.listing.specs.declared.Listed.{Listed}
@@ -57,3 +61,10 @@ cutRowsAfter N cuts sides = unlessRefused (listRefusal N cuts sides) (onto (minc
 
 unfoldable pub sideRowsAfter : Network → List ℕ → List ℕ → List ℕ
 sideRowsAfter N cuts sides = unlessRefused (listRefusal N cuts sides) (onto (sourceSides N) sides) sides
+
+-- By the definitions of graph theory: beside the refusal 0 stands the complete list, and 12 is given exactly if no earlier fault stands and
+-- the mincuts outnumber the rows.
+pub record ListMeans (N : Network) (cuts sides : List ℕ) (r n : ℕ) (cuts′ sides′ : List ℕ) : Type 0 where
+  pub stored : Stored N
+  pub complete : r ≡ 0 → CompleteList N n cuts′ sides′
+  pub outnumbered : (r ≡ 12) ↔ ((faultOf N ≡ 0) × (length cuts ≡ length sides) × Outnumber N (length cuts))

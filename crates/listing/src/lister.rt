@@ -1,12 +1,12 @@
 // The list call: the relevant part, a count of its rows where they might not suffice, the rows, and their order.
 use crate::Listed;
-use crate::enumeration::enumerate;
+use crate::sort::sort_rows;
 use edge_set::EdgeSet;
+use enumeration::enumerate;
 use network::Network;
 use network::refusal::ROWS_DIFFER;
 use network::refusal::TOO_MANY_CUTS;
 use node_set::NodeSet;
-use rows::sort_rows;
 ghost use mathlib.Core.Path.{_≡_};
 ghost use mathlib.Core.Bool.{true};
 ghost use Prim.Native.Nat.{_+_, _-_, _^_, _≤_, _<_};
@@ -15,7 +15,7 @@ ghost use lib.ListN.{length};
 ghost use Rattle.network.specs.Record.{faultOf};
 ghost use Rattle.graph.specs.Relevant.{relevantNodes, relevantEdges};
 ghost use Rattle.cuts.specs.Enumeration.{rows};
-ghost use Rattle.listing.specs.List.{listedBy, cutRowsAfter, sideRowsAfter};
+ghost use Rattle.listing.specs.List.{listedBy, cutRowsAfter, sideRowsAfter, ListMeans};
 
 // Whether so many rows suffice for every network with so many relevant nodes: they have at most 2 ^ (nodes - 2) mincuts.
 fn always_enough(nodes: u32, lent: usize) -> bool
@@ -50,6 +50,7 @@ pub fn list(network: Network, cuts: &mut [u64], sides: &mut [u32]) -> Listed
     ensures { λ r. ⌜ (r ≡ listedBy network (now (cuts .entry)) (now (sides .entry)))
         × (now (cuts .exit) ≡ cutRowsAfter network (now (cuts .entry)) (now (sides .entry)))
         × (now (sides .exit) ≡ sideRowsAfter network (now (cuts .entry)) (now (sides .entry))) ⌝ }
+    ensures means { λ r. ⌜ ListMeans network (now (cuts .entry)) (now (sides .entry)) (r .refusal) (r .count) (now (cuts .exit)) (now (sides .exit)) ⌝ }
 {
     let part = reach::relevant(network);
     let refusal = part.refusal;

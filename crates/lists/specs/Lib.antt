@@ -1,2 +1,4 @@
 -- Words for lists.
 pub mod Rising
+pub mod Distinct
+pub mod Counts

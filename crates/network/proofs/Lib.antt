@@ -1,3 +1,4 @@
 -- The theory of the record.
 pub mod Refusals
 pub mod Slots
+pub mod Rules

@@ -1,2 +1,3 @@
 -- The definitions that the contracts of `network` cite.
 pub mod Record
+pub mod Rules

@@ -19,16 +19,17 @@ use Rattle.network.specs.declared.Network.{Network}
 use Rattle.network.specs.Record.{_when_, faultOf, Stored}
 use Rattle.network.proofs.Refusals.{then-none, none-then, some-then, when-none, none-when, some-when}
 use Rattle.graph.specs.Reach.{Bounded}
-use Rattle.graph.specs.Cuts.{Cut, Mincut, RelevantEdge, RelevantNode}
+use Rattle.graph.specs.Cuts.{Cut, Mincut}
 use Rattle.graph.specs.CutTests.{severed, cutTest, allNeeded, mincutTest}
 use Rattle.graph.specs.Relevant.{relevantNodes, relevantEdges}
 use Rattle.graph.proofs.Tests.{T-every}
 use Rattle.graph.proofs.Cuts.{severed-iff, cutTest-iff, mincutTest-iff}
-use Rattle.graph.proofs.Sound.{accepted-sound}
+use Rattle.graph.proofs.Sound.{Sound, accepted-sound}
 use Rattle.graph.proofs.Relevant.{in-relevantNodes, in-relevantEdges}
+use Rattle.reach.specs.declared.RelevantPart.{RelevantPart}
 use Rattle.reach.specs.declared.Verdict.{Verdict}
 use Rattle.reach.specs.declared.Verdict.the-variants.{NotCut, NotMinimal, Minimal, Refused}
-use Rattle.reach.specs.Answers.{partFrom, partBeside, relevantOf, judgeFault, verdictOn, verdictBeside, verdictOf, Says}
+use Rattle.reach.specs.Answers.{partFrom, partBeside, relevantOf, PartMeans, judgeFault, verdictOn, verdictBeside, verdictOf, Says, VerdictMeans}
 
 -- ---- the relevant part
 
@@ -46,13 +47,35 @@ pub part-accepted : (N : Network) (n e : ℕ) → faultOf N ≡ 0 → n ≡ rele
 unfolding partBeside
 part-accepted N n e ok q s = rw (ok, q, s)
 
--- Of an accepted network, the members of the relevant part are exactly the relevant nodes and edges.
-pub relevant-right : (N : Network) → Stored N → faultOf N ≡ 0
-    → ((v : ℕ) → (v ∈ relevantOf N .nodes .0) ↔ RelevantNode N v) × ((e : ℕ) → (e ∈ relevantOf N .edges .0) ↔ RelevantEdge N e)
+-- The refusal beside the relevant part is the record's first fault.
+pub part-refusal : (N : Network) (p : RelevantPart) → p ≡ relevantOf N → p .refusal ≡ faultOf N
 unfolding partBeside
-relevant-right N stored ok =
-    let S = accepted-sound N stored ok in
-    rw ok (in-relevantNodes N S, in-relevantEdges N S)
+part-refusal N p e = ap (λ (q : RelevantPart). q .refusal) e ∙ go (faultOf N)
+  where
+    go : (r : ℕ) → partBeside N r .refusal ≡ r
+    go zero = refl
+    go (suc r) = refl
+
+-- Without a refusal the two sets are the relevant ones.
+module _ (N : Network) (p : RelevantPart) (e : p ≡ relevantOf N) (none : p .refusal ≡ 0) where
+  part-whole : p ≡ partFrom 0 (relevantNodes N) (relevantEdges N)
+  unfolding partBeside
+  part-whole = e ∙ ap (partBeside N) (sym (part-refusal N p e) ∙ none)
+
+  pub part-nodes : p .nodes .0 ≡ relevantNodes N
+  part-nodes = ap (λ (q : RelevantPart). q .nodes .0) part-whole
+
+  pub part-edges : p .edges .0 ≡ relevantEdges N
+  part-edges = ap (λ (q : RelevantPart). q .edges .0) part-whole
+
+-- Their members are then exactly the relevant nodes and edges.
+pub part-means : (N : Network) → Stored N → (p : RelevantPart) → p ≡ relevantOf N → PartMeans N (p .refusal) (p .nodes .0) (p .edges .0)
+part-means N stored p e =
+    let sound : p .refusal ≡ 0 → Sound N = λ none. accepted-sound N stored (sym (part-refusal N p e) ∙ none) in record {
+      stored = stored;
+      nodes = λ none v. rw (part-nodes N p e none) (in-relevantNodes N (sound none) v);
+      edges = λ none k. rw (part-edges N p e none) (in-relevantEdges N (sound none) k);
+    }
 
 -- ---- the tests of judging
 
@@ -165,6 +188,10 @@ module _ (N : Network) (stored : Stored N) (c : ℕ) where
       go : (r : ℕ) → judgeFault N c ≡ r → Says N c (verdictBeside N c r)
       go zero e = let p = judge-ok N c e in on-right N (accepted-sound N stored (p .0) .bounded) c (p .1)
       go (suc r) e = (e, zero-lt-suc r)
+
+  -- Beside the answer stands what it means.
+  pub verdict-means : {v : Verdict} → v ≡ verdictOf N c → (v ≡ verdictOf N c) × VerdictMeans N c v
+  verdict-means e = (e, record { stored = stored; says = rw e verdict-right })
 
   -- Of a set of present edges of an accepted network, the verdict is v exactly if what v says holds: exactly one of the three does.
   pub verdict-iff : faultOf N ≡ 0 → c ⊆ N .present .0 → (v : Verdict) → (verdictOf N c ≡ v) ↔ Says N c v

@@ -2,19 +2,22 @@
 --
 --   partFrom r n e       a relevant part from its fields: the refusal r beside the nodes n and the edges e
 --   relevantOf N         the relevant part of N (the paper's useful part): its first fault beside two empty sets, else 0 beside the relevant nodes and edges
+--   PartMeans N r n e    what the refusal r, the nodes n and the edges e mean as the relevant part of N
 --   judgeFault N c       the refusal of judging c: the first fault of N, then 14 for an edge that is not present
 --   verdictOf N c        what c is, or the refusal
 --   Says N c v           what the verdict v says of c
---   refusalNumber v      the number of the refusal, 0 beside a verdict
---   verdictNumber v      the number of the verdict, 0 beside a refusal
+--   VerdictMeans N c v   what the verdict v on c means
+--   told v               the numbers of each case: that of the refusal, 0 beside a verdict, and that of the verdict, 0 beside a refusal
 use mathlib.Core.Bool.{true, false, not}
+use mathlib.Core.Logic.{_↔_}
 use mathlib.Core.Path.{_≡_}
 use Prim.Native.Nat.{ℕ, zero, suc, _<_}
 use lib.Bits.{bitAnd}
 use lib.Dec.{eqb}
+use Rattle.bitset.specs.Members.{_∈_}
 use Rattle.network.specs.declared.Network.{Network}
-use Rattle.network.specs.Record.{_when_, _then_, faultOf}
-use Rattle.graph.specs.Cuts.{Cut, Mincut}
+use Rattle.network.specs.Record.{_when_, _then_, faultOf, Stored}
+use Rattle.graph.specs.Cuts.{Cut, Mincut, RelevantEdge, RelevantNode}
 use Rattle.graph.specs.CutTests.{severed, allNeeded}
 use Rattle.graph.specs.Relevant.{relevantNodes, relevantEdges}
 use Rattle.reach.specs.declared.RelevantPart.{RelevantPart}
@@ -33,6 +36,12 @@ partBeside N (suc r) = partFrom (suc r) 0 0
 
 abbrev pub relevantOf : Network → RelevantPart
 relevantOf N = partBeside N (faultOf N)
+
+-- By the definitions of graph theory: beside the refusal 0 the members are exactly the relevant nodes and edges.
+pub record PartMeans (N : Network) (r n e : ℕ) : Type 0 where
+  pub stored : Stored N
+  pub nodes : r ≡ 0 → (v : ℕ) → (v ∈ n) ↔ RelevantNode N v
+  pub edges : r ≡ 0 → (k : ℕ) → (k ∈ e) ↔ RelevantEdge N k
 
 -- ---- judging
 
@@ -62,16 +71,17 @@ Says N c NotMinimal = Cut N c × (Mincut N c → ⊥)
 Says N c Minimal = Mincut N c
 Says N c (Refused r) = (judgeFault N c ≡ r) × (0 < r)
 
--- The paper's numbers "Who causes a refusal".
-abbrev pub refusalNumber : Verdict → ℕ
-refusalNumber NotCut = 0
-refusalNumber NotMinimal = 0
-refusalNumber Minimal = 0
-refusalNumber (Refused r) = r
+pub record VerdictMeans (N : Network) (c : ℕ) (v : Verdict) : Type 0 where
+  pub stored : Stored N
+  pub says : Says N c v
 
--- The paper's order: 1 not a cut, 2 a cut but not minimal, 3 minimal.
-abbrev pub verdictNumber : Verdict → ℕ
-verdictNumber NotCut = 1
-verdictNumber NotMinimal = 2
-verdictNumber Minimal = 3
-verdictNumber (Refused r) = 0
+-- The refusal's number by the paper's table "Who causes a refusal", the verdict's by its place in the paper's order.
+pub record Told : Type 0 where
+  pub refusal : ℕ
+  pub verdict : ℕ
+
+abbrev pub told : Verdict → Told
+told NotCut = record { refusal = 0; verdict = 1 }
+told NotMinimal = record { refusal = 0; verdict = 2 }
+told Minimal = record { refusal = 0; verdict = 3 }
+told (Refused r) = record { refusal = r; verdict = 0 }

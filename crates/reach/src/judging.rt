@@ -8,7 +8,7 @@ use node_set::NodeSet;
 ghost use mathlib.Core.Path.{_≡_};
 ghost use Rattle.network.specs.Record.{faultOf};
 ghost use Rattle.graph.specs.CutTests.{severed, allNeeded};
-ghost use Rattle.reach.specs.Answers.{verdictOf, refusalNumber, verdictNumber};
+ghost use Rattle.reach.specs.Answers.{verdictOf, VerdictMeans, told};
 
 // Whether without the edges of the set the source does not reach the sink.
 fn severed(network: Network, set: EdgeSet) -> bool
@@ -43,6 +43,7 @@ fn all_needed(network: Network, set: EdgeSet) -> bool
 // What a set of edges is: the record's first fault, then 14; else exactly one of the three verdicts.
 pub fn classify(network: Network, set: EdgeSet) -> Verdict
     ensures { λ r. ⌜ r ≡ verdictOf network (set .0) ⌝ }
+    ensures means { λ r. ⌜ VerdictMeans network (set .0) r ⌝ }
 {
     let refusal = network::fault(network);
     if refusal != 0 {
@@ -63,7 +64,7 @@ pub fn classify(network: Network, set: EdgeSet) -> Verdict
 
 // The number of a verdict's refusal, 0 if there is none.
 pub fn refusal_number(verdict: Verdict) -> u8
-    ensures { λ r. ⌜ r ≡ refusalNumber verdict ⌝ }
+    ensures { λ r. ⌜ r ≡ told verdict .refusal ⌝ }
 {
     match verdict {
         Verdict::Refused(refusal) => refusal,
@@ -75,7 +76,7 @@ pub fn refusal_number(verdict: Verdict) -> u8
 
 // A verdict's place in the paper's order: 1 not a cut, 2 a cut but not minimal, 3 minimal; 0 for no verdict.
 pub fn verdict_number(verdict: Verdict) -> u8
-    ensures { λ r. ⌜ r ≡ verdictNumber verdict ⌝ }
+    ensures { λ r. ⌜ r ≡ told verdict .verdict ⌝ }
 {
     match verdict {
         Verdict::Refused(_) => 0,

@@ -11,7 +11,7 @@ ghost use Rattle.bitset.specs.Members.{has};
 ghost use Rattle.network.specs.Record.{faultOf};
 ghost use Rattle.graph.specs.Reach.{addIf};
 ghost use Rattle.graph.specs.Relevant.{edgesWithin, past, relevantNodes};
-ghost use Rattle.reach.specs.Answers.{relevantOf};
+ghost use Rattle.reach.specs.Answers.{relevantOf, PartMeans};
 
 // Whether both nodes are in the set.
 fn has_both(nodes: NodeSet, first: u8, second: u8) -> bool
@@ -81,6 +81,7 @@ fn relevant_nodes(network: Network) -> NodeSet
 // The relevant part: the record's first fault beside two empty sets, else 0 beside the relevant nodes and edges.
 pub fn relevant(network: Network) -> RelevantPart
     ensures { λ r. ⌜ r ≡ relevantOf network ⌝ }
+    ensures means { λ r. ⌜ PartMeans network (r .refusal) (r .nodes .0) (r .edges .0) ⌝ }
 {
     let refusal = network::fault(network);
     if refusal != 0 {

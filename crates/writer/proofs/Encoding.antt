@@ -5,12 +5,14 @@ use mathlib.Core.Path.{_≡_, refl, ap, sym, _∙_}
 use Prim.Native.Nat.{ℕ, zero, suc, _+_, _-_, _≤_, _<_, zero-le}
 use native.Mathlib.Omega.{arith}
 use lib.ListN.{length, take, drop, set, length-drop}
-use lib.Seq.{sets, take-length, drop-drop, drop-at, length-take-le, length-sets}
+use lib.Seq.{sets, take-at, take-length, drop-drop, drop-at, length-take-le, length-sets}
 use Rattle.network.specs.declared.Network.{Network}
-use Rattle.network.specs.Record.{unlessRefused}
+use Rattle.network.specs.Record.{unlessRefused, faultOf, Stored}
+use Rattle.network.proofs.Refusals.{then-none}
 use Rattle.format.specs.declared.Encoded.{Encoded}
-use Rattle.format.specs.Format.{encodeOf, encodeRefusal, encodeAnswer, encodedBy, bytesAfter, WrittenTo}
-use Rattle.format.proofs.Writing.{rest, rest-all, written-length, written-next, next-room, encode-size}
+use Rattle.format.specs.Format.{accept, decodeOf, encodeOf, encodeRefusal, encodeAnswer, encodedBy, bytesAfter, WrittenTo}
+use Rattle.format.specs.Meaning.{WrittenMeans}
+use Rattle.format.proofs.Writing.{encode-decode, rest, rest-all, written-length, written-next, next-room, encode-size}
 
 -- What the writer answers and leaves.
 abbrev pub Answered : Network → List ℕ → Encoded → List ℕ → Type 0
@@ -31,6 +33,41 @@ encode-written N l n after e count bytes = (
   ap (encodeAnswer 0) count ∙ ap (λ x. encodeAnswer x (length (encodeOf N))) (sym e),
   bytes ∙ ap (λ x. unlessRefused x (encodeOf N ++ drop (length (encodeOf N)) l) l) (sym e),
 )
+
+-- ---- what the answer means
+
+-- The answer's refusal is the call's.
+encode-refusal : (N : Network) (l : List ℕ) → encodedBy N l .refusal ≡ encodeRefusal N l
+unfolding encodedBy
+encode-refusal N l = go (encodeRefusal N l)
+  where
+    go : (r : ℕ) → encodeAnswer r (length (encodeOf N)) .refusal ≡ r
+    go zero = refl
+    go (suc r) = refl
+
+-- A call that gave the refusal 0 was made on an accepted record, and has written its plan.
+pub written-call : (N : Network) (l : List ℕ) → encodedBy N l .refusal ≡ 0
+    → (faultOf N ≡ 0)
+    × Answered N l (record { refusal = 0; count = length (encodeOf N) }) (encodeOf N ++ drop (length (encodeOf N)) l)
+unfolding encodeRefusal
+written-call N l e =
+    let none : encodeRefusal N l ≡ 0 = sym (encode-refusal N l) ∙ e in
+    (then-none (faultOf N) _ none .0, encode-written N l (length (encodeOf N)) _ none refl refl)
+
+-- The plan that was written reads back as the record.
+pub reads-back : (N : Network) → Stored N → (l : List ℕ) → encodedBy N l .refusal ≡ 0
+    → decodeOf (take (encodedBy N l .count) (bytesAfter N l)) ≡ accept N
+reads-back N stored l e =
+    let (ok, left) = written-call N l e in
+    rw (← left .0, ← left .1, take-at (encodeOf N) (drop (length (encodeOf N)) l) (length (encodeOf N)) refl) (encode-decode N stored ok)
+
+-- Beside the answer stands what it means.
+pub written-means : (N : Network) → Stored N → (l : List ℕ) {answer : Encoded} {after : List ℕ} → Answered N l answer after
+    → Answered N l answer after × WrittenMeans N (answer .refusal) (answer .count) after
+written-means N stored l a =
+    (a, record { stored = stored; reads-back = λ none. rw (a .0, a .1) (reads-back N stored l (sym (ap (λ (x : Encoded). x .refusal) (a .0)) ∙ none)) })
+
+-- ---- the steps of the writer
 
 -- What stands past the written bytes is what stood there.
 past-written : (e l : List ℕ) (n : ℕ) (p : List ℕ) → WrittenTo e l n p → (m : ℕ) → n ≤ m → drop m p ≡ drop m l

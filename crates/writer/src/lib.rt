@@ -13,6 +13,7 @@ ghost use Prim.Native.Nat.{_+_, _≤_};
 ghost use lib.ListN.{length, drop};
 ghost use lib.Seq.{sets};
 ghost use Rattle.format.specs.Format.{commandOf, encodeOf, encodedBy, bytesAfter, WrittenTo};
+ghost use Rattle.format.specs.Meaning.{WrittenMeans};
 
 // How many bytes the network's plan has.
 fn encoded_length(network: Network) -> usize
@@ -75,6 +76,7 @@ fn put_slots(plan: &mut [u8], network: Network) -> usize
 // The writer: the record's first fault, then 15; on refusal nothing is written.
 pub fn encode(network: Network, plan: &mut [u8]) -> Encoded
     ensures { λ r. ⌜ (r ≡ encodedBy network (now (plan .entry))) × (now (plan .exit) ≡ bytesAfter network (now (plan .entry))) ⌝ }
+    ensures means { λ r. ⌜ WrittenMeans network (r .refusal) (r .count) (now (plan .exit)) ⌝ }
 {
     let refusal = fault(network);
     if refusal != 0 {

@@ -1,7 +1,9 @@
 -- `cutlist_classify` meets its contract, by those of `assemble`, `classify` and the numbers of a verdict.
 -- Assumes nothing.
 use mathlib.Core.Path.{ap, _∙_}
-use Rattle.reach.specs.Answers.{verdictOf, refusalNumber, verdictNumber}
+use Rattle.reach.specs.declared.Verdict.{Verdict}
+use Rattle.reach.specs.Answers.{verdictOf, told}
+use Rattle.capi.proofs.Judging.{judged-means}
 use borrow.Author.Needs.{needs}
 use Rattle.capi.proofs.cutlist_classify.Statement.{statement}
 use Rattle.capi.proofs.cutlist_classify.Tie as tie
@@ -21,11 +23,15 @@ refusal-number-requires c κs = search needs
 returns : tie.Need-returns
 returns c =
     let a = c .before .before .before .before .args in
-    let judged = c .before .before .classify .ensures ∙ ap (λ N. verdictOf N (a .set)) (c .before .before .before .assemble .ensures) in
-    record {
-      refusal = c .refusal-number .ensures ∙ ap refusalNumber judged;
-      verdict = c .before .verdict-number .ensures ∙ ap verdictNumber judged;
-    }
+    let call = c .before .before .classify .ensures in
+    let N = c .before .before .before .assemble .ensures in
+    let judged = call .0 ∙ ap (λ N. verdictOf N (a .set)) N in (
+      record {
+        refusal = c .refusal-number .ensures ∙ ap (λ (v : Verdict). told v .refusal) judged;
+        verdict = c .before .verdict-number .ensures ∙ ap (λ (v : Verdict). told v .verdict) judged;
+      },
+      judged-means (call .1) N (c .refusal-number .ensures) (c .before .verdict-number .ensures),
+    )
 
 pub cutlist-classify-spec : {M : Type 1} → statement M
 cutlist-classify-spec =

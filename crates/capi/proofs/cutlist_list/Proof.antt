@@ -22,16 +22,18 @@ same-length-2 c = search needs
 
 returns : tie.Need-returns
 returns c =
-    let e = c .before .before .before .before .list .ensures in
+    let e = c .before .before .before .before .list .ensures .0 in
     let cuts = c .before .before .before .before .before .before .before .before .before .before .args .cuts .now in
     let sides = c .before .before .before .before .before .before .before .before .before .before .args .sides .now in
-    let N = c .before .before .before .before .before .before .before .assemble .ensures in
-    record {
-      refusal = ap (λ (d : Listed). d .refusal) (e .0) ∙ ap (λ (M : Network). listedBy M cuts sides .refusal) N;
-      count = ap (λ (d : Listed). d .count) (e .0) ∙ ap (λ (M : Network). listedBy M cuts sides .count) N;
-      cut-rows = e .1 ∙ ap (λ (M : Network). cutRowsAfter M cuts sides) N;
-      side-rows = e .2 ∙ ap (λ (M : Network). sideRowsAfter M cuts sides) N;
-    }
+    let N = c .before .before .before .before .before .before .before .assemble .ensures in (
+      record {
+        refusal = ap (λ (d : Listed). d .refusal) (e .0) ∙ ap (λ (M : Network). listedBy M cuts sides .refusal) N;
+        count = ap (λ (d : Listed). d .count) (e .0) ∙ ap (λ (M : Network). listedBy M cuts sides .count) N;
+        cut-rows = e .1 ∙ ap (λ (M : Network). cutRowsAfter M cuts sides) N;
+        side-rows = e .2 ∙ ap (λ (M : Network). sideRowsAfter M cuts sides) N;
+      },
+      rw N at (c .before .before .before .before .list .ensures .1),
+    )
 
 pub cutlist-list-spec : {M : Type 1} → statement M
 cutlist-list-spec =

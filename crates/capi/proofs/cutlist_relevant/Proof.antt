@@ -15,12 +15,16 @@ relevant-requires c κs = search needs
 
 returns : tie.Need-returns
 returns c =
-    let part = c .before .before .relevant .ensures ∙ ap relevantOf (c .before .before .before .assemble .ensures) in
-    record {
-      refusal = ap (λ (p : RelevantPart). p .refusal) part;
-      nodes = ap (λ (p : RelevantPart). p .nodes .0) part;
-      edges = ap (λ (p : RelevantPart). p .edges .0) part;
-    }
+    let call = c .before .before .relevant .ensures in
+    let N = c .before .before .before .assemble .ensures in
+    let part = call .0 ∙ ap relevantOf N in (
+      record {
+        refusal = ap (λ (p : RelevantPart). p .refusal) part;
+        nodes = ap (λ (p : RelevantPart). p .nodes .0) part;
+        edges = ap (λ (p : RelevantPart). p .edges .0) part;
+      },
+      rw N at (call .1),
+    )
 
 pub cutlist-relevant-spec : {M : Type 1} → statement M
 cutlist-relevant-spec = tie.close (tie.spec assemble-requires relevant-requires returns)

@@ -31,7 +31,7 @@ returns-2 : tie.Need-returns-2
 returns-2 c =
     let call = c .before .before .before .before .before .before in
     let reader = call .before .before .before .before .before in
-    rw (report-refused _ _ (reader .decode .ensures) (call .before .before .before .if1 .left) _ _ lent-rows lent-rows _ (call .list .ensures .0) (c .before .before .if2 .taken))
+    rw (report-refused _ _ (reader .decode .ensures) (call .before .before .before .if1 .left) _ _ lent-rows lent-rows _ (call .list .ensures .0 .0) (c .before .before .if2 .taken))
     (c .put-refusal2 .ensures)
 
 put-list-requires : tie.Need-put-list-requires
@@ -41,7 +41,7 @@ returns-3 : tie.Need-returns-3
 returns-3 c =
     let call = c .before .before .before .before .before .before .before .before in
     let reader = call .before .before .before .before .before in
-    rw (report-listed _ _ (reader .decode .ensures) (call .before .before .before .if1 .left) _ _ lent-rows lent-rows _ (call .list .ensures .0) (call .list .ensures .1) (call .list .ensures .2) (c .before .before .before .before .if2 .left))
+    rw (report-listed _ _ (reader .decode .ensures) (call .before .before .before .if1 .left) _ _ lent-rows lent-rows _ (call .list .ensures .0 .0) (call .list .ensures .0 .1) (call .list .ensures .0 .2) (c .before .before .before .before .if2 .left))
     (c .put-list .ensures)
 
 pub report-spec : {M : Type 1} → statement M

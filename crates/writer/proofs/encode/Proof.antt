@@ -5,12 +5,17 @@ use Prim.Native.Nat.{_≤_}
 use native.Mathlib.Omega.{arith}
 use borrow.Author.Tests.{lt-ltb, le-ltb}
 use lib.ListN.{length}
+use Rattle.network.specs.Record.{Stored}
 use Rattle.network.proofs.Refusals.{none-then, some-then, some-when, none-when}
 use Rattle.format.specs.Format.{encodeOf, encodeRefusal}
-use Rattle.writer.proofs.Encoding.{encode-refused, encode-written, header-room, header-kept, end-room, end-length, end-bytes}
+use Rattle.writer.proofs.Encoding.{encode-refused, encode-written, written-means, header-room, header-kept, end-room, end-length, end-bytes}
 use borrow.Author.Needs.{needs}
 use Rattle.writer.proofs.encode.Statement.{statement}
 use Rattle.writer.proofs.encode.Tie as tie
+
+-- What the types say of the record.
+stored : (c : tie.Start) → Stored (c .args .network)
+stored c = record { firsts = search needs; seconds = search needs; edges = search needs }
 
 fault-requires : tie.Need-fault-requires
 fault-requires c κs = search needs
@@ -18,8 +23,10 @@ fault-requires c κs = search needs
 returns : tie.Need-returns
 unfolding encodeRefusal
 returns c =
-    encode-refused (c .before .before .before .args .network) _ _
-    (c .before .fault .ensures ∙ sym (some-then _ _ (omega (arith, c .before .fault .ensures)))) (c .if1 .taken)
+    let start = c .before .before .before in
+    written-means (start .args .network) (stored start) _
+    (encode-refused (start .args .network) _ _
+    (c .before .fault .ensures ∙ sym (some-then _ _ (omega (arith, c .before .fault .ensures)))) (c .if1 .taken))
 
 encoded-length-requires : tie.Need-encoded-length-requires
 encoded-length-requires c κs = search needs
@@ -27,9 +34,11 @@ encoded-length-requires c κs = search needs
 returns-2 : tie.Need-returns-2
 unfolding encodeRefusal
 returns-2 c =
-    let N = c .before .before .before .before .before .args .network in
+    let start = c .before .before .before .before .before in
+    let N = start .args .network in
     let none = sym (c .before .before .before .fault .ensures) ∙ c .before .before .if1 .left in
-    encode-refused N _ 15 (sym (none-then _ none ∙ some-when 15 (lt-ltb _ _ (rw (c .before .encoded-length .ensures) at (c .if2 .taken))))) (λ e. omega arith)
+    written-means N (stored start) _
+    (encode-refused N _ 15 (sym (none-then _ none ∙ some-when 15 (lt-ltb _ _ (rw (c .before .encoded-length .ensures) at (c .if2 .taken))))) (λ e. omega arith))
 
 put-header-requires : tie.Need-put-header-requires
 put-header-requires c κs =
@@ -58,14 +67,16 @@ same-length c =
 returns-3 : tie.Need-returns-3
 unfolding encodeRefusal
 returns-3 c =
-    let a = c .before .before .before .before .before .before .before .before .before .before .before .before .before .args in
+    let start = c .before .before .before .before .before .before .before .before .before .before .before .before .before in
+    let a = start .args in
     let p = c .before .before .put-slots in
     let count = c .before .before .before .before .before .before .before .before .before .encoded-length .ensures in
     let room : length (encodeOf (a .network)) ≤ length (a .plan .now) = rw count at (c .before .before .before .before .before .before .before .before .if2 .left) in
-    encode-written (a .network) (a .plan .now) _ _
+    written-means (a .network) (stored start) _
+    (encode-written (a .network) (a .plan .now) _ _
     (none-then _ (sym (c .before .before .before .before .before .before .before .before .before .before .before .fault .ensures) ∙ c .before .before .before .before .before .before .before .before .before .before .if1 .left) ∙ none-when 15 (le-ltb _ _ room))
     count
-    (end-bytes (a .network) (a .plan .now) room (p .result) (p .last .0) (rw (c .before .before .before .before .before .before .put-header .ensures) at (p .ensures .0)) (p .ensures .1))
+    (end-bytes (a .network) (a .plan .now) room (p .result) (p .last .0) (rw (c .before .before .before .before .before .before .put-header .ensures) at (p .ensures .0)) (p .ensures .1)))
 
 pub encode-spec : {M : Type 1} → statement M
 encode-spec =

@@ -8,8 +8,9 @@ use borrow.Author.Tests.{ltb-true, ltb-false}
 use lib.ListN.{length}
 use Rattle.network.specs.Record.{Stored}
 use Rattle.cuts.specs.Enumeration.{rows}
+use Rattle.listing.proofs.Meaning.{answered-means}
 use Rattle.listing.proofs.Call.{answered-faulty, answered-unpaired, answered-outnumbered, answered-complete}
-use Rattle.listing.proofs.Given.{part-refusal, part-nodes, part-edges}
+use Rattle.reach.proofs.Answers.{part-refusal, part-nodes, part-edges}
 use borrow.Author.Needs.{needs}
 use Rattle.listing.proofs.lister.list.Statement.{statement}
 use Rattle.listing.proofs.lister.list.Tie as tie
@@ -23,29 +24,32 @@ relevant-requires c κs = search needs
 
 returns : tie.Need-returns
 returns c =
-    answered-faulty _ _ _ _ (part-refusal _ _ (c .before .relevant .ensures)) (c .if1 .taken)
+    answered-means _ (stored (c .before .before .before .before)) _ _
+    (answered-faulty _ _ _ _ (part-refusal _ _ (c .before .relevant .ensures .0)) (c .if1 .taken))
 
 returns-2 : tie.Need-returns-2
 returns-2 c =
-    answered-unpaired _ _ _ (sym (part-refusal _ _ (c .before .before .relevant .ensures)) ∙ c .before .if1 .left) (c .if2 .taken)
+    answered-means _ (stored (c .before .before .before .before .before)) _ _
+    (answered-unpaired _ _ _ (sym (part-refusal _ _ (c .before .before .relevant .ensures .0)) ∙ c .before .if1 .left) (c .if2 .taken))
 
 outnumber-requires : tie.Need-outnumber-requires
 outnumber-requires c κs =
     let p = c .before .before .before .before .relevant in
     let none = c .before .before .before .if1 .left in
-    (sym (part-refusal _ _ (p .ensures)) ∙ none, part-nodes _ _ (p .ensures) none, part-edges _ _ (p .ensures) none, omega (arith, c .before .before .before .before .before .before .before .good))
+    (sym (part-refusal _ _ (p .ensures .0)) ∙ none, part-nodes _ _ (p .ensures .0) none, part-edges _ _ (p .ensures .0) none, omega (arith, c .before .before .before .before .before .before .before .good))
 
 returns-3 : tie.Need-returns-3
 returns-3 c =
     let start = c .before .before .before .before .before .before .before .before .before in
-    let ok = sym (part-refusal _ _ (c .before .before .before .before .before .before .relevant .ensures)) ∙ c .before .before .before .before .before .if1 .left in
-    answered-outnumbered _ _ _ (stored start) ok (c .before .before .before .before .if2 .left) (ltb-true _ _ (sym (c .before .outnumber .ensures) ∙ c .if3 .taken))
+    let ok = sym (part-refusal _ _ (c .before .before .before .before .before .before .relevant .ensures .0)) ∙ c .before .before .before .before .before .if1 .left in
+    answered-means _ (stored start) _ _
+    (answered-outnumbered _ _ _ (stored start) ok (c .before .before .before .before .if2 .left) (ltb-true _ _ (sym (c .before .outnumber .ensures) ∙ c .if3 .taken)))
 
 enumerate-requires : tie.Need-enumerate-requires
 enumerate-requires c κs =
     let p = c .before .before .before .before .before .before .before .before .relevant in
     let none = c .before .before .before .before .before .before .before .if1 .left in
-    (sym (part-refusal _ _ (p .ensures)) ∙ none, part-nodes _ _ (p .ensures) none, part-edges _ _ (p .ensures) none, record { counted = zero-le; limited = omega (arith, c .before .before .before .before .before .before .before .before .before .before .before .good); cuts-end = le-refl _; sides-end = omega (arith, c .before .before .before .before .before .before .if2 .left) })
+    (sym (part-refusal _ _ (p .ensures .0)) ∙ none, part-nodes _ _ (p .ensures .0) none, part-edges _ _ (p .ensures .0) none, record { counted = zero-le; limited = omega (arith, c .before .before .before .before .before .before .before .before .before .before .before .good); cuts-end = le-refl _; sides-end = omega (arith, c .before .before .before .before .before .before .if2 .left) })
 
 -- Where the rows are filled in: their number is that of the enumeration, and both areas reach so far.
 module _ (c : tie.After-enumerate) where
@@ -106,10 +110,11 @@ returns-4 c =
     let fill = c .before .before .before .before .before .before .before .before .before .before .before in
     let part = fill .before .before .before .before .before .before .before .before .before in
     let begin = part .before .before .before in
-    let ok = sym (part-refusal _ _ (part .relevant .ensures)) ∙ fill .before .before .before .before .before .before .before .before .if1 .left in
-    answered-complete (begin .args .network) _ _ (stored begin) ok (fill .before .before .before .before .before .before .before .if2 .left)
+    let ok = sym (part-refusal _ _ (part .relevant .ensures .0)) ∙ fill .before .before .before .before .before .before .before .before .if1 .left in
+    answered-means (begin .args .network) (stored begin) _ _
+    (answered-complete (begin .args .network) _ _ (stored begin) ok (fill .before .before .before .before .before .before .before .if2 .left)
     _ (count fill) (rw (count fill) (fits fill)) _ _ _ _
-    (fill .enumerate .ensures .put-cuts) (fill .enumerate .ensures .put-sides) (c .before .before .before .before .sort-rows .ensures)
+    (fill .enumerate .ensures .put-cuts) (fill .enumerate .ensures .put-sides) (c .before .before .before .before .sort-rows .ensures))
 
 pub list-spec : {M : Type 1} → statement M
 list-spec =

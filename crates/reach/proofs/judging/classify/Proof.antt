@@ -4,20 +4,26 @@ use mathlib.Core.Path.{_≡_, sym, _∙_}
 use native.Mathlib.Omega.{arith}
 use borrow.Author.Tests.{not-true, not-false}
 use Rattle.bitset.specs.Members.{_⊆_}
-use Rattle.network.specs.Record.{faultOf}
-use Rattle.reach.proofs.Answers.{judge-record, judge-absent, verdict-refused, verdict-not-cut, verdict-minimal, verdict-not-minimal}
+use Rattle.network.specs.Record.{faultOf, Stored}
+use Rattle.reach.proofs.Answers.{judge-record, judge-absent, verdict-refused, verdict-not-cut, verdict-minimal, verdict-not-minimal, verdict-means}
 use borrow.Author.Needs.{needs}
 use Rattle.reach.proofs.judging.classify.Statement.{statement}
 use Rattle.reach.proofs.judging.classify.Tie as tie
+
+-- What the types say of the record.
+stored : (c : tie.Start) → Stored (c .args .network)
+stored c = record { firsts = search needs; seconds = search needs; edges = search needs }
 
 fault-requires : tie.Need-fault-requires
 fault-requires c κs = search needs
 
 returns : tie.Need-returns
 returns c =
-    let a = c .before .before .args in
+    let start = c .before .before in
+    let a = start .args in
     let r = c .before .fault in
-    verdict-refused (a .network) (a .set .0) (r .result) (judge-record (a .network) (a .set .0) (r .result) (r .ensures) (c .if1 .taken)) (c .if1 .taken)
+    verdict-means (a .network) (stored start) (a .set .0)
+    (verdict-refused (a .network) (a .set .0) (r .result) (judge-record (a .network) (a .set .0) (r .result) (r .ensures) (c .if1 .taken)) (c .if1 .taken))
 
 is-subset-requires : tie.Need-is-subset-requires
 is-subset-requires c κs = search needs
@@ -28,9 +34,11 @@ accepted c = sym (c .before .fault .ensures) ∙ c .if1 .left
 
 returns-2 : tie.Need-returns-2
 returns-2 c =
-    let a = c .before .before .before .before .args in
+    let start = c .before .before .before .before in
+    let a = start .args in
     let out = c .before .is-subset .ensures .fails (not-true _ (c .if2 .taken)) in
-    verdict-refused (a .network) (a .set .0) 14 (judge-absent (a .network) (a .set .0) (accepted (c .before .before)) out) (λ e. omega arith)
+    verdict-means (a .network) (stored start) (a .set .0)
+    (verdict-refused (a .network) (a .set .0) 14 (judge-absent (a .network) (a .set .0) (accepted (c .before .before)) out) (λ e. omega arith))
 
 severed-requires : tie.Need-severed-requires
 severed-requires c κs = search needs
@@ -41,24 +49,30 @@ within c = c .before .is-subset .ensures .holds (not-false _ (c .if2 .left))
 
 returns-3 : tie.Need-returns-3
 returns-3 c =
-    let a = c .before .before .before .before .before .before .args in
-    verdict-not-cut (a .network) (a .set .0) (accepted (c .before .before .before .before)) (within (c .before .before))
-    (sym (c .before .severed .ensures) ∙ not-true _ (c .if3 .taken))
+    let start = c .before .before .before .before .before .before in
+    let a = start .args in
+    verdict-means (a .network) (stored start) (a .set .0)
+    (verdict-not-cut (a .network) (a .set .0) (accepted (c .before .before .before .before)) (within (c .before .before))
+    (sym (c .before .severed .ensures) ∙ not-true _ (c .if3 .taken)))
 
 all-needed-requires : tie.Need-all-needed-requires
 all-needed-requires c κs = search needs
 
 returns-4 : tie.Need-returns-4
 returns-4 c =
-    let a = c .before .before .before .before .before .before .before .before .args in
-    verdict-minimal (a .network) (a .set .0) (accepted (c .before .before .before .before .before .before)) (within (c .before .before .before .before))
-    (sym (c .before .before .before .severed .ensures) ∙ not-false _ (c .before .before .if3 .left)) (sym (c .before .all-needed .ensures) ∙ c .if4 .taken)
+    let start = c .before .before .before .before .before .before .before .before in
+    let a = start .args in
+    verdict-means (a .network) (stored start) (a .set .0)
+    (verdict-minimal (a .network) (a .set .0) (accepted (c .before .before .before .before .before .before)) (within (c .before .before .before .before))
+    (sym (c .before .before .before .severed .ensures) ∙ not-false _ (c .before .before .if3 .left)) (sym (c .before .all-needed .ensures) ∙ c .if4 .taken))
 
 returns-5 : tie.Need-returns-5
 returns-5 c =
-    let a = c .before .before .before .before .before .before .before .before .args in
-    verdict-not-minimal (a .network) (a .set .0) (accepted (c .before .before .before .before .before .before)) (within (c .before .before .before .before))
-    (sym (c .before .before .before .severed .ensures) ∙ not-false _ (c .before .before .if3 .left)) (sym (c .before .all-needed .ensures) ∙ c .if4 .left)
+    let start = c .before .before .before .before .before .before .before .before in
+    let a = start .args in
+    verdict-means (a .network) (stored start) (a .set .0)
+    (verdict-not-minimal (a .network) (a .set .0) (accepted (c .before .before .before .before .before .before)) (within (c .before .before .before .before))
+    (sym (c .before .before .before .severed .ensures) ∙ not-false _ (c .before .before .if3 .left)) (sym (c .before .all-needed .ensures) ∙ c .if4 .left))
 
 pub classify-spec : {M : Type 1} → statement M
 classify-spec =

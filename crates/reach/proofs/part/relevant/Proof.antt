@@ -2,11 +2,16 @@
 -- Assumes nothing.
 use mathlib.Core.Path.{sym, ap, _∙_}
 use Rattle.bitset.proofs.Results.{empty-zero}
+use Rattle.network.specs.Record.{Stored}
 use Rattle.graph.specs.Relevant.{edgesWithin, relevantEdges}
-use Rattle.reach.proofs.Answers.{part-refused, part-accepted}
+use Rattle.reach.proofs.Answers.{part-refused, part-accepted, part-means}
 use borrow.Author.Needs.{needs}
 use Rattle.reach.proofs.part.relevant.Statement.{statement}
 use Rattle.reach.proofs.part.relevant.Tie as tie
+
+-- What the types say of the record.
+stored : (c : tie.Start) → Stored (c .args .network)
+stored c = record { firsts = search needs; seconds = search needs; edges = search needs }
 
 fault-requires : tie.Need-fault-requires
 fault-requires c κs = search needs
@@ -19,8 +24,10 @@ empty-requires-2 c κs = search needs
 
 returns : tie.Need-returns
 returns c =
-    part-refused (c .before .before .before .before .args .network) _ _ _ (c .before .before .before .fault .ensures) (c .before .before .if1 .taken)
-    (empty-zero _ (c .before .empty .ensures)) (empty-zero _ (c .empty2 .ensures))
+    let start = c .before .before .before .before in
+    let part = part-refused (start .args .network) _ _ _ (c .before .before .before .fault .ensures) (c .before .before .if1 .taken)
+    (empty-zero _ (c .before .empty .ensures)) (empty-zero _ (c .empty2 .ensures)) in
+    (part, part-means (start .args .network) (stored start) _ part)
 
 relevant-nodes-requires : tie.Need-relevant-nodes-requires
 relevant-nodes-requires c κs = search needs
@@ -33,8 +40,9 @@ unfolding relevantEdges
 returns-2 c =
     let N = c .before .before .before .before .args .network in
     let nodes = c .before .relevant-nodes .ensures in
-    part-accepted N _ _ (sym (c .before .before .before .fault .ensures) ∙ c .before .before .if1 .left) nodes
-    (c .edges-within .ensures ∙ ap (edgesWithin N) nodes)
+    let part = part-accepted N _ _ (sym (c .before .before .before .fault .ensures) ∙ c .before .before .if1 .left) nodes
+    (c .edges-within .ensures ∙ ap (edgesWithin N) nodes) in
+    (part, part-means N (stored (c .before .before .before .before)) _ part)
 
 pub relevant-spec : {M : Type 1} → statement M
 relevant-spec =

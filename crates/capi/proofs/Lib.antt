@@ -1,0 +1,2 @@
+-- What the border adds: a verdict by its numbers.
+pub mod Judging

@@ -1,0 +1,167 @@
+-- Demand 1: every call ends with the complete result or with the named refusal that its own condition calls for.
+-- Assumes what the code's types say of the records.
+use mathlib.Core.Path.{_≡_, refl, sym, ap, subst, _∙_}
+use mathlib.Core.List.{List}
+use mathlib.Core.Logic.{_↔_}
+use Prim.Native.Nat.{ℕ, _≤_, _<_}
+use native.Mathlib.Decide.{ℕ-discrete, decLt}
+use native.Mathlib.Omega.{arith}
+use borrow.Author.Tests.{lt-ltb, le-ltb}
+use lib.Bits.{bitAnd}
+use lib.ListN.{length, drop, length-append, length-drop, length-map}
+use lib.Seq.{drop-at}
+use Rattle.bitset.specs.Members.{_⊆_}
+use Rattle.bitset.proofs.Subsets.{subset-and}
+use Rattle.network.specs.declared.Network.{Network}
+use Rattle.network.specs.Record.{Stored, faultOf}
+use Rattle.network.specs.Rules.{Rules}
+use Rattle.network.proofs.Refusals.{none-then, some-then, some-when, none-when}
+use Rattle.network.proofs.Rules.{fault-rules}
+use Rattle.format.specs.declared.Encoded.{Encoded}
+use Rattle.format.specs.Format.{accept, refuse, decodeOf, encodeOf, encodeRefusal, encodedBy, bytesAfter}
+use Rattle.format.proofs.Reading.{accepts, decode-plan, decode-answer}
+use Rattle.format.proofs.Writing.{encode-decode}
+use Rattle.writer.proofs.Encoding.{Answered as Written, encode-refused, encode-written}
+use Rattle.graph.specs.Lists.{Outnumber}
+use Rattle.graph.specs.Relevant.{relevantNodes, relevantEdges, sourceSideOf}
+use Rattle.graph.proofs.Sound.{accepted-sound}
+use Rattle.graph.proofs.Relevant.{in-relevantNodes, in-relevantEdges}
+use Rattle.reach.specs.declared.Verdict.{Verdict}
+use Rattle.reach.specs.declared.Verdict.the-variants.{NotCut, NotMinimal, Minimal, Refused}
+use Rattle.reach.specs.Answers.{relevantOf, judgeFault, verdictOf, Says, told}
+use Rattle.reach.proofs.Answers.{part-refused, part-accepted, judge-record, judge-absent, judge-none, verdict-refused, verdict-right}
+use Rattle.listing.specs.declared.Listed.{Listed}
+use Rattle.listing.specs.List.{mincuts, sourceSides, onto, listRefusal, listedBy, cutRowsAfter, sideRowsAfter}
+use Rattle.listing.proofs.Refusals.{Case, faulty, unpaired, outnumbered, complete, call-case, refusal-none}
+use Rattle.listing.proofs.Call.{Answered, answered-faulty, answered-unpaired, answered-outnumbered, answer-refusal, complete-call}
+use Rattle.listing.proofs.Meaning.{outnumber-iff, call-complete, call-outnumbered}
+use Rattle.listing.proofs.Rows.{mincuts-count}
+use Rattle.demands.specs.Endings.{ReaderEnds, PartEnds, JudgingEnds, Kept, ListEnds, WriterEnds}
+use Rattle.demands.specs.Demands.{DemandOne}
+
+-- A record without a fault keeps the rules.
+rules : (N : Network) → faultOf N ≡ 0 → Rules N
+rules N = fault-rules N .0
+
+-- A fault that is not 0 is above it.
+some : {r : ℕ} → (r ≡ 0 → ⊥) → 0 < r
+some f = omega arith
+
+-- ---- reading
+
+-- A plan within the rules is read.
+read : (N : Network) → Stored N → Rules N → decodeOf (encodeOf N) ≡ accept N
+read N stored r = encode-decode N stored (fault-rules N .1 r)
+
+reader : (s : List ℕ) → ReaderEnds s (decodeOf s)
+reader s = go (ℕ-discrete (decodeOf s .refusal) 0)
+  where
+    go : Dec (decodeOf s .refusal ≡ 0) → ReaderEnds s (decodeOf s)
+    go (yes e) =
+        let N : Network = decodeOf s .network in
+        let plan = decode-plan s N (accepts s e) in
+        subst (ReaderEnds s) (sym (accepts s e)) (ReaderEnds.read N (plan .stored) (rules N (plan .accepted)) (plan .bytes))
+    go (no f) =
+        let answer = decode-answer s in
+        let outside : (N : Network) → Stored N → Rules N → encodeOf N ≡ s → ⊥ = λ N stored r e. f (ap (λ d. d .refusal) (rw e at (read N stored r))) in
+        let zeroed : decodeOf s ≡ refuse (decodeOf s .refusal) = λ i. record { refusal = decodeOf s .refusal; network = answer .zeroed f i } in
+        subst (ReaderEnds s) (sym zeroed) (ReaderEnds.refused (decodeOf s .refusal) (some f) (answer .bounded) outside)
+
+-- ---- the relevant part
+
+part : (N : Network) → Stored N → PartEnds N (relevantOf N)
+part N stored = go (ℕ-discrete (faultOf N) 0)
+  where
+    go : Dec (faultOf N ≡ 0) → PartEnds N (relevantOf N)
+    go (yes ok) =
+        let S = accepted-sound N stored ok in
+        subst (PartEnds N) (part-accepted N (relevantNodes N) (relevantEdges N) ok refl refl)
+        (PartEnds.found (rules N ok) (relevantNodes N) (relevantEdges N) (in-relevantNodes N S) (in-relevantEdges N S))
+    go (no f) = subst (PartEnds N) (part-refused N (faultOf N) 0 0 refl f refl refl) (PartEnds.faulty (some f))
+
+-- ---- judging
+
+judging : (N : Network) → Stored N → (c : ℕ) → JudgingEnds N c (verdictOf N c)
+judging N stored c = go (ℕ-discrete (faultOf N) 0) (ℕ-discrete (bitAnd c (N .present .0)) c)
+  where
+    -- A verdict that says something true of a set that is not refused is none of the refusals.
+    unrefused : faultOf N ≡ 0 → c ⊆ N .present .0 → (v : Verdict) → Says N c v → told v .refusal ≡ 0
+    unrefused ok within NotCut s = refl
+    unrefused ok within NotMinimal s = refl
+    unrefused ok within Minimal s = refl
+    unrefused ok within (Refused r) s = absurd (omega (arith, judge-none N c ok within, s .0, s .1))
+
+    go : Dec (faultOf N ≡ 0) → Dec (bitAnd c (N .present .0) ≡ c) → JudgingEnds N c (verdictOf N c)
+    go (no f) d = subst (JudgingEnds N c) (verdict-refused N c (faultOf N) (judge-record N c (faultOf N) refl f) f) (JudgingEnds.faulty (some f))
+    go (yes ok) (no d) =
+        let out : c ⊆ N .present .0 → ⊥ = λ within. d (subset-and c (N .present .0) .0 within) in
+        subst (JudgingEnds N c) (verdict-refused N c 14 (judge-absent N c ok out) (λ e. omega arith)) (JudgingEnds.absent (rules N ok) out)
+    go (yes ok) (yes e) =
+        let within : c ⊆ N .present .0 = subset-and c (N .present .0) .1 e in
+        let says : Says N c (verdictOf N c) = verdict-right N stored c in
+        JudgingEnds.judged (verdictOf N c) (rules N ok) within (unrefused ok within (verdictOf N c) says) says
+
+-- ---- the list
+
+-- A list written onto enough rows leaves the later ones.
+kept-onto : (l lent : List ℕ) (n : ℕ) → length l ≡ n → n ≤ length lent → Kept n lent (onto l lent)
+kept-onto l lent n count fits = record {
+  size = omega (arith, length-append l (drop (length l) lent), length-drop (length l) lent);
+  later = drop-at l (drop (length l) lent) n count ∙ ap (λ (m : ℕ). drop m lent) count;
+}
+
+module _ (N : Network) (stored : Stored N) (cuts sides : List ℕ) where
+  -- What ends so is what the call answers and leaves.
+  ended : {l : Listed} {cuts′ sides′ : List ℕ} → Answered N cuts sides l cuts′ sides′ → ListEnds N cuts sides l cuts′ sides′
+      → ListEnds N cuts sides (listedBy N cuts sides) (cutRowsAfter N cuts sides) (sideRowsAfter N cuts sides)
+  ended a e = rw (← a .0, ← a .1, ← a .2) e
+
+  list : ListEnds N cuts sides (listedBy N cuts sides) (cutRowsAfter N cuts sides) (sideRowsAfter N cuts sides)
+  list = go (call-case N cuts sides)
+    where
+      more : faultOf N ≡ 0 → (length cuts < length (mincuts N)) ↔ Outnumber N (length cuts)
+      more ok = outnumber-iff N (accepted-sound N stored ok .bounded) (length cuts)
+
+      go : Case N cuts sides → ListEnds N cuts sides (listedBy N cuts sides) (cutRowsAfter N cuts sides) (sideRowsAfter N cuts sides)
+      go (faulty f) = ended (answered-faulty N cuts sides (faultOf N) refl f) (ListEnds.faulty (some f))
+      go (unpaired ok differ) = ended (answered-unpaired N cuts sides ok differ) (ListEnds.unpaired (rules N ok) differ)
+      go (outnumbered ok paired h) =
+          ended (answered-outnumbered N cuts sides stored ok paired (rw (← mincuts-count N (accepted-sound N stored ok)) h))
+          (ListEnds.outnumbered (rules N ok) paired (more ok .0 h))
+      go (complete ok paired fits) =
+          let none : listedBy N cuts sides .refusal ≡ 0 = answer-refusal N cuts sides ∙ refusal-none N cuts sides .1 (ok, paired, fits) in
+          let left = complete-call N stored cuts sides none .1 in
+          ended left
+          (ListEnds.complete (length (mincuts N)) _ _ (rules N ok) paired (λ o. omega (arith, more ok .1 o)) (call-complete N stored cuts sides left refl)
+          (kept-onto (mincuts N) cuts _ refl fits) (kept-onto (sourceSides N) sides _ (length-map (mincuts N) (sourceSideOf N)) (rw paired at fits)))
+
+-- ---- writing
+
+writer : (N : Network) (lent : List ℕ) → WriterEnds N lent (encodedBy N lent) (bytesAfter N lent)
+unfolding encodeRefusal
+writer N lent = go (ℕ-discrete (faultOf N) 0) (decLt (length lent) (length (encodeOf N)))
+  where
+    ended : {e : Encoded} {after : List ℕ} → Written N lent e after → WriterEnds N lent e after → WriterEnds N lent (encodedBy N lent) (bytesAfter N lent)
+    ended a e = rw (← a .0, ← a .1) e
+
+    go : Dec (faultOf N ≡ 0) → Dec (length lent < length (encodeOf N)) → WriterEnds N lent (encodedBy N lent) (bytesAfter N lent)
+    go (no f) d = ended (encode-refused N lent (faultOf N) (sym (some-then (faultOf N) _ (some f))) f) (WriterEnds.faulty (some f))
+    go (yes ok) (yes h) =
+        ended (encode-refused N lent 15 (sym (none-then _ ok ∙ some-when 15 (lt-ltb _ _ h))) (λ e. omega arith)) (WriterEnds.short (rules N ok) h)
+    go (yes ok) (no h) =
+        let room : length (encodeOf N) ≤ length lent = omega arith in
+        ended (encode-written N lent _ _ (none-then _ ok ∙ none-when 15 (le-ltb _ _ room)) refl refl) (WriterEnds.written (rules N ok) room)
+
+-- ---- the demand
+
+pub demand-one : DemandOne
+demand-one = record {
+  test = fault-rules;
+  read = read;
+  reader = reader;
+  part = part;
+  judging = judging;
+  list = list;
+  too-many = λ N stored cuts sides. call-outnumbered N stored cuts sides refl;
+  writer = λ N stored. writer N;
+}

@@ -1,0 +1,64 @@
+-- The customer's three demands, as statements about the calls. What a call answers and leaves is what its contract says: `decodeOf`,
+-- `faultOf`, `relevantOf`, `verdictOf`, `listedBy` with the rows afterwards, `encodedBy` with the bytes afterwards. `Stored N`, what the types of the
+-- code say of any record, is in the contract of every call that takes one.
+--
+--   DemandOne        every call ends with the complete result or with the refusal that its own condition calls for
+--   DemandTwo        the list holds exactly the minimal cuts, each beside its near side; writing and reading give back what they were given
+--   DemandThree      two complete lists are equal exactly if the two plans have the same routes
+use mathlib.Core.List.{List, _++_}
+use mathlib.Core.Logic.{_↔_}
+use mathlib.Core.Path.{_≡_}
+use Prim.Native.Nat.{ℕ, _≤_}
+use lib.ListN.{length, take, drop}
+use Rattle.network.specs.declared.Network.{Network}
+use Rattle.network.specs.Record.{Stored, faultOf}
+use Rattle.network.specs.Rules.{Rules}
+use Rattle.format.specs.Format.{accept, decodeOf, encodeOf, encodedBy, bytesAfter}
+use Rattle.graph.specs.Paths.{SameMinpaths}
+use Rattle.graph.specs.Lists.{CompleteList, SameList, Outnumber}
+use Rattle.reach.specs.Answers.{relevantOf, verdictOf}
+use Rattle.listing.specs.List.{listedBy, cutRowsAfter, sideRowsAfter}
+use Rattle.demands.specs.Endings.{ReaderEnds, PartEnds, JudgingEnds, ListEnds, WriterEnds}
+
+pub record DemandOne : Type 0 where
+  -- The record test finds no fault exactly if the record keeps the rules.
+  pub test : (N : Network) → (faultOf N ≡ 0) ↔ Rules N
+  -- A plan within the rules is read.
+  pub read : (N : Network) → Stored N → Rules N → decodeOf (encodeOf N) ≡ accept N
+  pub reader : (s : List ℕ) → ReaderEnds s (decodeOf s)
+  pub part : (N : Network) → Stored N → PartEnds N (relevantOf N)
+  pub judging : (N : Network) → Stored N → (c : ℕ) → JudgingEnds N c (verdictOf N c)
+  pub list : (N : Network) → Stored N → (cuts sides : List ℕ)
+      → ListEnds N cuts sides (listedBy N cuts sides) (cutRowsAfter N cuts sides) (sideRowsAfter N cuts sides)
+  -- "Too many cuts" exactly if no earlier fault stands and the mincuts outnumber the rows lent.
+  pub too-many : (N : Network) → Stored N → (cuts sides : List ℕ)
+      → (listedBy N cuts sides .refusal ≡ 12) ↔ ((faultOf N ≡ 0) × (length cuts ≡ length sides) × Outnumber N (length cuts))
+  pub writer : (N : Network) → Stored N → (lent : List ℕ) → WriterEnds N lent (encodedBy N lent) (bytesAfter N lent)
+
+pub record DemandTwo : Type 0 where
+  pub list : (N : Network) → Stored N → (cuts sides : List ℕ) → listedBy N cuts sides .refusal ≡ 0
+      → CompleteList N (listedBy N cuts sides .count) (cutRowsAfter N cuts sides) (sideRowsAfter N cuts sides)
+  -- The list of a plan in bytes that was accepted is that of the record read.
+  pub list-bytes : (s : List ℕ) → decodeOf s .refusal ≡ 0 → (cuts sides : List ℕ) → listedBy (decodeOf s .network) cuts sides .refusal ≡ 0
+      → CompleteList (decodeOf s .network) (listedBy (decodeOf s .network) cuts sides .count)
+      (cutRowsAfter (decodeOf s .network) cuts sides) (sideRowsAfter (decodeOf s .network) cuts sides)
+  -- What the write call left reads back as the record.
+  pub reads-back : (N : Network) → Stored N → (lent : List ℕ) → encodedBy N lent .refusal ≡ 0
+      → decodeOf (take (encodedBy N lent .count) (bytesAfter N lent)) ≡ accept N
+  -- Accepted bytes, written again into any buffer with room, stand there unchanged, with what followed kept.
+  pub writes-again : (s : List ℕ) → decodeOf s .refusal ≡ 0 → (lent : List ℕ) → length s ≤ length lent
+      → (encodedBy (decodeOf s .network) lent ≡ record { refusal = 0; count = length s })
+      × (bytesAfter (decodeOf s .network) lent ≡ s ++ drop (length s) lent)
+
+-- Of any two list calls that came out complete, whatever rows were lent for either and whatever these held.
+pub record DemandThree : Type 0 where
+  pub lists : (N M : Network) → Stored N → Stored M → (cuts sides cuts′ sides′ : List ℕ)
+      → listedBy N cuts sides .refusal ≡ 0 → listedBy M cuts′ sides′ .refusal ≡ 0
+      → SameList (listedBy N cuts sides .count) (cutRowsAfter N cuts sides) (listedBy M cuts′ sides′ .count) (cutRowsAfter M cuts′ sides′)
+      ↔ SameMinpaths N M
+  -- The same of plans in bytes that the reader accepted: their lists are those of the records read.
+  pub lists-bytes : (s t : List ℕ) → decodeOf s .refusal ≡ 0 → decodeOf t .refusal ≡ 0 → (cuts sides cuts′ sides′ : List ℕ)
+      → listedBy (decodeOf s .network) cuts sides .refusal ≡ 0 → listedBy (decodeOf t .network) cuts′ sides′ .refusal ≡ 0
+      → SameList (listedBy (decodeOf s .network) cuts sides .count) (cutRowsAfter (decodeOf s .network) cuts sides)
+      (listedBy (decodeOf t .network) cuts′ sides′ .count) (cutRowsAfter (decodeOf t .network) cuts′ sides′)
+      ↔ SameMinpaths (decodeOf s .network) (decodeOf t .network)

@@ -1,0 +1,65 @@
+-- How each open call ends (demand 1): with its complete result beside the refusal 0, or with the number of the first fault in the paper's
+-- order, its empty result, and lent memory as it was. The cases of a call exclude each other, so each refusal is given exactly if its own
+-- condition holds and no earlier fault stands.
+--
+--   ReaderEnds s d                   reading the bytes s gives d
+--   PartEnds N p                     finding the relevant part of N gives p
+--   JudgingEnds N c v                judging the set c in N gives v
+--   Kept n before after              lent rows or bytes: as many as before, and past the first n what they held
+--   ListEnds N cuts sides l cuts′ sides′     listing N into rows that held `cuts` and `sides` gives l and leaves cuts′ and sides′
+--   WriterEnds N lent e after        writing N into a buffer that held `lent` gives e and leaves `after`
+use mathlib.Core.List.{List, _++_}
+use mathlib.Core.Logic.{_↔_}
+use mathlib.Core.Path.{_≡_}
+use Prim.Native.Nat.{ℕ, _≤_, _<_}
+use lib.ListN.{length, drop}
+use Rattle.bitset.specs.Members.{_∈_, _⊆_}
+use Rattle.network.specs.declared.Network.{Network}
+use Rattle.network.specs.Record.{Stored, faultOf}
+use Rattle.network.specs.Rules.{Rules}
+use Rattle.format.specs.declared.Decoded.{Decoded}
+use Rattle.format.specs.declared.Encoded.{Encoded}
+use Rattle.format.specs.Format.{accept, refuse, encodeOf}
+use Rattle.graph.specs.Cuts.{RelevantEdge, RelevantNode}
+use Rattle.graph.specs.Lists.{CompleteList, Outnumber}
+use Rattle.reach.specs.declared.RelevantPart.{RelevantPart}
+use Rattle.reach.specs.declared.Verdict.{Verdict}
+use Rattle.reach.specs.Answers.{partFrom, Says, told}
+use Rattle.listing.specs.declared.Listed.{Listed}
+
+-- A plan within the rules is read; any other bytes are refused with a number from 1 to 10, beside the all-zero record.
+pub data ReaderEnds (s : List ℕ) : Decoded → Type 0 where
+  read : (N : Network) → Stored N → Rules N → encodeOf N ≡ s → ReaderEnds s (accept N)
+  refused : (r : ℕ) → 0 < r → r ≤ 10 → ((N : Network) → Stored N → Rules N → encodeOf N ≡ s → ⊥) → ReaderEnds s (refuse r)
+
+-- Two sets that hold exactly the relevant nodes and edges; on refusal both empty.
+pub data PartEnds (N : Network) : RelevantPart → Type 0 where
+  found : Rules N → (n e : ℕ) → ((v : ℕ) → (v ∈ n) ↔ RelevantNode N v) → ((k : ℕ) → (k ∈ e) ↔ RelevantEdge N k) → PartEnds N (partFrom 0 n e)
+  faulty : 0 < faultOf N → PartEnds N (partFrom (faultOf N) 0 0)
+
+-- A verdict that is true; 14 for an edge that is not present.
+pub data JudgingEnds (N : Network) (c : ℕ) : Verdict → Type 0 where
+  judged : (v : Verdict) → Rules N → c ⊆ N .present .0 → told v .refusal ≡ 0 → Says N c v → JudgingEnds N c v
+  faulty : 0 < faultOf N → JudgingEnds N c (Verdict.Refused (faultOf N))
+  absent : Rules N → (c ⊆ N .present .0 → ⊥) → JudgingEnds N c (Verdict.Refused 14)
+
+pub record Kept (n : ℕ) (before after : List ℕ) : Type 0 where
+  pub size : length after ≡ length before
+  pub later : drop n after ≡ drop n before
+
+-- The complete list and later rows as they were; 11 for rows that differ in number, then 12 for too many cuts.
+pub data ListEnds (N : Network) (cuts sides : List ℕ) : Listed → List ℕ → List ℕ → Type 0 where
+  complete : (n : ℕ) (cuts′ sides′ : List ℕ) → Rules N → length cuts ≡ length sides → (Outnumber N (length cuts) → ⊥)
+      → CompleteList N n cuts′ sides′ → Kept n cuts cuts′ → Kept n sides sides′
+      → ListEnds N cuts sides (record { refusal = 0; count = n }) cuts′ sides′
+  faulty : 0 < faultOf N → ListEnds N cuts sides (record { refusal = faultOf N; count = 0 }) cuts sides
+  unpaired : Rules N → (length cuts ≡ length sides → ⊥) → ListEnds N cuts sides (record { refusal = 11; count = 0 }) cuts sides
+  outnumbered : Rules N → length cuts ≡ length sides → Outnumber N (length cuts)
+      → ListEnds N cuts sides (record { refusal = 12; count = 0 }) cuts sides
+
+-- The plan's bytes and later bytes as they were; 15 for a buffer that is too short.
+pub data WriterEnds (N : Network) (lent : List ℕ) : Encoded → List ℕ → Type 0 where
+  written : Rules N → length (encodeOf N) ≤ length lent
+      → WriterEnds N lent (record { refusal = 0; count = length (encodeOf N) }) (encodeOf N ++ drop (length (encodeOf N)) lent)
+  faulty : 0 < faultOf N → WriterEnds N lent (record { refusal = faultOf N; count = 0 }) lent
+  short : Rules N → length lent < length (encodeOf N) → WriterEnds N lent (record { refusal = 15; count = 0 }) lent

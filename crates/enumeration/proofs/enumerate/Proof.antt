@@ -1,0 +1,75 @@
+-- `enumerate` meets its contract: the rows in which the source joins are all rows.
+-- Assumes nothing.
+use mathlib.Core.Path.{refl}
+use native.Mathlib.Omega.{arith}
+use borrow.Author.Needs.{needs}
+use Rattle.graph.specs.Cuts.{only}
+use Rattle.graph.proofs.Sound.{Sound, accepted-sound}
+use Rattle.cuts.specs.Enumeration.{relevantPart}
+use Rattle.cuts.proofs.Part.{part-bounded}
+use Rattle.enumeration.specs.Tables.{Tables}
+use Rattle.enumeration.proofs.First.{relevant-present, blank-fed, source-free, source-rest, put-all}
+use Rattle.enumeration.proofs.enumerate.Statement.{statement}
+use Rattle.enumeration.proofs.enumerate.Tie as tie
+
+-- An accepted network is sound.
+sound : (c : tie.Start) → Sound (c .args .network)
+sound c = accepted-sound (c .args .network) (record { firsts = search needs; seconds = search needs; edges = search needs }) (c .pre .0)
+
+fill-tables-requires : tie.Need-fill-tables-requires
+fill-tables-requires c κs =
+    let s = c .before .before .before .before in
+    (s .pre .0, rw (s .pre .2) (relevant-present (s .args .network) (sound s)), refl, refl)
+
+cast-source : tie.Need-cast-source
+cast-source c = search needs
+
+cast-sink : tie.Need-cast-sink
+cast-sink c = search needs
+
+blank-requires : tie.Need-blank-requires
+blank-requires c κs = search needs
+
+join-requires : tie.Need-join-requires
+join-requires c κs =
+    let s = c .before .before .before .before .before .before .before .before .before .before .before .before in
+    let N = s .args .network in
+    let S = sound s in
+    let none = c .before .before .before .before .blank .ensures N (s .pre .1) refl in
+    (omega (arith, S .source-lt, S .small), source-free N S (c .before .before .before .before .blank .result) none, s .pre .3)
+
+same-length : tie.Need-same-length
+same-length c = search needs
+
+same-length-2 : tie.Need-same-length-2
+same-length-2 c = search needs
+
+returns : tie.Need-returns
+unfolding only
+returns c =
+    let s = c .before .before .before .before .before .before .before .before .before .before .before .before .before .before .before .before .before in
+    let N = s .args .network in
+    let S = sound s in
+    let first = c .before .before .before .before .before .before .before .before .before .blank .result in
+    let none = c .before .before .before .before .before .before .before .before .before .blank .ensures N (s .pre .1) refl in
+    let filled = c .before .before .before .before .before .before .before .before .before .before .before .before .fill-tables in
+    let tables : Tables (relevantPart N) (filled .last .1 .1 .0) (filled .last .1 .1 .1 .0) = record {
+      bounded = part-bounded N S;
+      nodes = rw (s .pre .2) at (filled .ensures .0);
+      edges = rw (s .pre .2) at (filled .ensures .1);
+    } in
+    put-all N S first none _ _ _ _ _ _ _
+    (c .before .before .before .before .join .ensures .1 (relevantPart N) tables refl (blank-fed N S first none) (λ off. absurd (off (source-rest N S first none))))
+
+pub enumerate-spec : {M : Type 1} → statement M
+enumerate-spec =
+    tie.close
+    (tie.spec
+    fill-tables-requires
+    cast-source
+    cast-sink
+    blank-requires
+    join-requires
+    same-length
+    same-length-2
+    returns)

@@ -1,0 +1,83 @@
+-- `joined` meets its contract, field by field.
+-- Assumes nothing.
+use mathlib.Core.Path.{ap, _∙_}
+use Prim.Native.Nat.{ℕ, _^_}
+use borrow.Author.Needs.{needs}
+use lib.Bits.{bitXor}
+use Rattle.bitset.specs.Members.{insert, _∖_}
+use Rattle.bitset.proofs.Results.{with-member, without-minus, union-or}
+use Rattle.graph.specs.Relevant.{reachIn}
+use Rattle.cuts.specs.declared.Branch.{Branch}
+use Rattle.cuts.specs.Enumeration.{joined}
+use Rattle.enumeration.proofs.Halves.{beside-round, at-edges}
+use Rattle.enumeration.proofs.joined.Statement.{statement}
+use Rattle.enumeration.proofs.joined.Tie as tie
+
+with-requires : tie.Need-with-requires
+with-requires c κs = search needs
+
+without-requires : tie.Need-without-requires
+without-requires c κs = search needs
+
+rest-without-requires : tie.Need-rest-without-requires
+rest-without-requires c κs = search needs
+
+mul-t14 : tie.Need-mul-t14
+mul-t14 c = search needs
+
+element-copy-out-t17 : tie.Need-element-copy-out-t17
+element-copy-out-t17 c = search needs
+
+union-requires : tie.Need-union-requires
+union-requires c κs = search needs
+
+with-requires-2 : tie.Need-with-requires-2
+with-requires-2 c κs = search needs
+
+mul-t14-2 : tie.Need-mul-t14-2
+mul-t14-2 c = search needs
+
+element-copy-out-t21 : tie.Need-element-copy-out-t21
+element-copy-out-t21 c = search needs
+
+returns : tie.Need-returns
+unfolding joined
+returns c =
+    let a = c .before .before .before .before .before .before .before .before .before .args in
+    let b : Branch = a .b in
+    let v : ℕ = a .v in
+    let h = c .before .before .before .before .before .before .before .before .before .pre in
+    let side = with-member 32 (b .side .0) v _ h (c .before .before .before .before .before .before .before .before .with .ensures) in
+    let undecided = without-minus (b .undecided .0) v _ (c .before .before .before .before .before .before .without .ensures) in (
+      undecided,
+      λ M t e there whole.
+          let rest = c .before .before .before .before .before .rest-without .ensures M (t .bounded) (t .nodes) there (λ off. rw e (whole off))
+          ∙ ap (reachIn M (b .rest .0 ∖ 2 ^ v)) e in
+          let border = with-member 32 _ v _ h (c .before .before .with2 .ensures)
+          ∙ ap (λ (x : ℕ). insert x v) (union-or (b .border .0) _ _ (c .before .before .before .union .ensures))
+          ∙ beside-round M (t .bounded) (a .near .now) (t .nodes) v h (b .border .0) in
+          let cut = ap (bitXor (b .cut .0)) (at-edges M (t .bounded) (a .at .now) (t .edges) v h) in
+          λ i. record {
+            side = record { 0 = side i };
+            out = b .out;
+            undecided = record { 0 = undecided i };
+            rest = record { 0 = rest i };
+            border = record { 0 = border i };
+            cut = record { 0 = cut i };
+          },
+    )
+
+pub joined-spec : {M : Type 1} → statement M
+joined-spec =
+    tie.close
+    (tie.spec
+    with-requires
+    without-requires
+    rest-without-requires
+    mul-t14
+    element-copy-out-t17
+    union-requires
+    with-requires-2
+    mul-t14-2
+    element-copy-out-t21
+    returns)

@@ -1,0 +1,285 @@
+// The enumeration of the source sides (the paper's near sides): a node beside the side joins it, or is left out for good.
+use cuts::Branch;
+use edge_set::EdgeSet;
+use network::Network;
+use node_set::NodeSet;
+ghost use mathlib.Core.Path.{_≡_};
+ghost use mathlib.Core.List.{[], _∷_};
+ghost use Prim.Native.Nat.{_^_, _≤_, _<_};
+ghost use lib.ListN.{getD, set, replicate};
+ghost use Rattle.bitset.specs.Members.{insert, _∈_, _⊆_, _∖_};
+ghost use Rattle.network.specs.Record.{faultOf};
+ghost use Rattle.graph.specs.Reach.{Bounded};
+ghost use Rattle.graph.specs.Cuts.{only};
+ghost use Rattle.graph.specs.Relevant.{reachIn, relevantNodes, relevantEdges};
+ghost use Rattle.cuts.specs.Enumeration.{candidate, leftOut, isOpen, rowOf, rows, blank};
+ghost use Rattle.enumeration.specs.Tables.{Near, At};
+ghost use Rattle.enumeration.specs.Rows.{Room, Put, JoinedBranch, JoinPut, LeaveOutPut};
+
+// ---- the tables
+
+// The node b is beside the node a.
+fn link(near: &mut [u32; 32], a: u8, b: u8)
+    requires { ⌜ (a < 32) × (b < 32) ⌝ }
+    ensures { λ _. ⌜ now (near .exit) ≡ set (now (near .entry)) a (insert (getD (now (near .entry)) a 0) b) ⌝ }
+{
+    let slot = a as usize;
+    let beside = NodeSet(near[slot]).with(b as u32);
+    near[slot] = beside.0;
+}
+
+// The edge e is at the node a.
+fn hang(at: &mut [u64; 32], a: u8, e: u32)
+    requires { ⌜ (a < 32) × (e < 64) ⌝ }
+    ensures { λ _. ⌜ now (at .exit) ≡ set (now (at .entry)) a (insert (getD (now (at .entry)) a 0) e) ⌝ }
+{
+    let slot = a as usize;
+    let edges = EdgeSet(at[slot]).with(e);
+    at[slot] = edges.0;
+}
+
+// For each node the nodes beside it and the edges at it, over the given edges, into two empty tables.
+fn fill_tables(network: Network, edges: EdgeSet, near: &mut [u32; 32], at: &mut [u64; 32])
+    requires { ⌜ (faultOf network ≡ 0) × (edges .0 ⊆ network .present .0) × (now near ≡ replicate 32 0) × (now at ≡ replicate 32 0) ⌝ }
+    ensures { λ _. ⌜ Near (only network (edges .0)) (now (near .exit)) × At (only network (edges .0)) (now (at .exit)) ⌝ }
+{
+    let mut left = edges;
+    loop {
+        let k = left.lowest();
+        if 64 <= k {
+            return;
+        }
+        let slot = k as usize;
+        link(near, network.first[slot], network.second[slot]);
+        link(near, network.second[slot], network.first[slot]);
+        hang(at, network.first[slot], k);
+        hang(at, network.second[slot], k);
+        left = left.without_lowest();
+    }
+}
+
+// ---- the branches
+
+// What the start reaches by walks that stay inside the set: of the nodes found, each in turn finds those beside it.
+fn reach_in(near: &[u32; 32], within: NodeSet, start: u32) -> NodeSet
+    ensures { λ r. ⌜ ((M : Network) → Bounded M → Near M (now (near .entry)) → start ∈ within .0 → r .0 ≡ reachIn M (within .0) start) ⌝ }
+{
+    let first = NodeSet::single(start);
+    let mut reached = first;
+    let mut fresh = first;
+    let all = loop {
+        let v = fresh.lowest();
+        if 32 <= v {
+            break reached;
+        }
+        let slot = v as usize;
+        let inside = NodeSet(near[slot]).intersection(within);
+        let found = inside.difference(reached);
+        reached = reached.union(found);
+        let others = fresh.without_lowest();
+        fresh = others.union(found);
+    };
+    all
+}
+
+// What the sink reaches once v has joined: as before if it did not reach v.
+fn rest_without(near: &[u32; 32], rest: NodeSet, v: u32, sink: u32) -> NodeSet
+    ensures { λ r. ⌜ ((M : Network) → Bounded M → Near M (now (near .entry)) → sink ∈ (rest .0 ∖ 2 ^ v)
+        → ((v ∈ rest .0 → ⊥) → reachIn M (rest .0) sink ≡ rest .0) → r .0 ≡ reachIn M (rest .0 ∖ 2 ^ v) sink) ⌝ }
+{
+    if rest.contains(v) {
+        reach_in(near, rest.without(v), sink)
+    } else {
+        rest
+    }
+}
+
+// The branch with v joined.
+fn joined(near: &[u32; 32], at: &[u64; 32], b: Branch, v: u32, sink: u32) -> Branch
+    requires { ⌜ v < 32 ⌝ }
+    ensures { λ r. ⌜ (r .undecided .0 ≡ b .undecided .0 ∖ 2 ^ v) × JoinedBranch (now (near .entry)) (now (at .entry)) sink b v r ⌝ }
+{
+    let slot = v as usize;
+    let side = b.side.with(v);
+    let out = b.out;
+    let undecided = b.undecided.without(v);
+    let rest = rest_without(near, b.rest, v, sink);
+    let beside = b.border.union(NodeSet(near[slot]));
+    let border = beside.with(v);
+    let cut = EdgeSet(b.cut.0 ^ at[slot]);
+    Branch {
+        side,
+        out,
+        undecided,
+        rest,
+        border,
+        cut,
+    }
+}
+
+// The branch with v left out.
+fn left_out(b: Branch, v: u32) -> Branch
+    requires { ⌜ v < 32 ⌝ }
+    ensures { λ r. ⌜ r ≡ leftOut b v ⌝ }
+{
+    let side = b.side;
+    let out = b.out.with(v);
+    let undecided = b.undecided.without(v);
+    let rest = b.rest;
+    let border = b.border;
+    let cut = b.cut;
+    Branch {
+        side,
+        out,
+        undecided,
+        rest,
+        border,
+        cut,
+    }
+}
+
+// The lowest undecided node beside the side, 32 if there is none.
+fn candidate(b: Branch) -> u32
+    ensures { λ r. ⌜ r ≡ candidate b ⌝ }
+{
+    let beside = b.border.intersection(b.undecided);
+    u32::trailing_zeros(beside.0)
+}
+
+// Whether the sink still reaches all that is left out.
+fn is_open(b: Branch) -> bool
+    ensures { λ r. ⌜ r ≡ isOpen b ⌝ }
+{
+    let common = b.out.intersection(b.rest);
+    common.equals(b.out)
+}
+
+// ---- the rows
+
+// The cut at place n, where the area has one.
+fn put_cut(cuts: &mut [u64], n: usize, cut: EdgeSet)
+    ensures { λ _. ⌜ now (cuts .exit) ≡ set (now (cuts .entry)) n (cut .0) ⌝ }
+{
+    if n < cuts.len() {
+        cuts[n] = cut.0;
+    }
+}
+
+// The side at place n, where the area has one.
+fn put_side(sides: &mut [u32], n: usize, side: NodeSet)
+    ensures { λ _. ⌜ now (sides .exit) ≡ set (now (sides .entry)) n (side .0) ⌝ }
+{
+    if n < sides.len() {
+        sides[n] = side.0;
+    }
+}
+
+// The row of a branch without a candidate, at place n. Gives the place after it.
+fn put_row(b: Branch, cuts: &mut [u64], sides: &mut [u32], n: usize, limit: usize) -> usize
+    requires { ⌜ (n ≤ limit) × Room n limit (now cuts) (now sides) ⌝ }
+    ensures { λ r. ⌜ Room r limit (now (cuts .exit)) (now (sides .exit)) × Put (rowOf b ∷ [])
+        n limit (now (cuts .entry)) (now (sides .entry)) (now (cuts .exit)) (now (sides .exit)) r ⌝ }
+{
+    put_cut(cuts, n, b.cut);
+    put_side(sides, n, b.side);
+    n + 1
+}
+
+// Writes the rows in which v joins from place n on, and gives the place after them. One row past the limit, which no area holds, is enough.
+fn join(
+    near: &[u32; 32],
+    at: &[u64; 32],
+    sink: u32,
+    b: Branch,
+    v: u32,
+    cuts: &mut [u64],
+    sides: &mut [u32],
+    n: usize,
+    limit: usize,
+) -> usize
+    requires { ⌜ (v < 32) × (v ∈ b .undecided .0) × Room n limit (now cuts) (now sides) ⌝ }
+    ensures { λ r. ⌜ Room r limit (now (cuts .exit)) (now (sides .exit)) × JoinPut (now (near .entry)) (now (at .entry)) sink b v
+        n limit (now (cuts .entry)) (now (sides .entry)) (now (cuts .exit)) (now (sides .exit)) r ⌝ }
+{
+    if limit < n {
+        return n;
+    }
+    let next = joined(near, at, b, v, sink);
+    if !is_open(next) {
+        return n;
+    }
+    let w = candidate(next);
+    if 32 <= w {
+        return put_row(next, cuts, sides, n, limit);
+    }
+    let m = join(near, at, sink, next, w, cuts, sides, n, limit);
+    leave_out(near, at, sink, next, w, cuts, sides, m, limit)
+}
+
+// Writes the rows in which v is left out for good from place n on, and gives the place after them.
+fn leave_out(
+    near: &[u32; 32],
+    at: &[u64; 32],
+    sink: u32,
+    b: Branch,
+    v: u32,
+    cuts: &mut [u64],
+    sides: &mut [u32],
+    n: usize,
+    limit: usize,
+) -> usize
+    requires { ⌜ (v < 32) × (v ∈ b .undecided .0) × Room n limit (now cuts) (now sides) ⌝ }
+    ensures { λ r. ⌜ Room r limit (now (cuts .exit)) (now (sides .exit)) × LeaveOutPut (now (near .entry)) (now (at .entry)) sink b v
+        n limit (now (cuts .entry)) (now (sides .entry)) (now (cuts .exit)) (now (sides .exit)) r ⌝ }
+{
+    if limit < n {
+        return n;
+    }
+    let rest = b.rest;
+    if !rest.contains(v) {
+        return n;
+    }
+    let next = left_out(b, v);
+    let w = candidate(next);
+    if 32 <= w {
+        return put_row(next, cuts, sides, n, limit);
+    }
+    let m = join(near, at, sink, next, w, cuts, sides, n, limit);
+    leave_out(near, at, sink, next, w, cuts, sides, m, limit)
+}
+
+// The branch in which nothing is decided yet.
+fn blank(nodes: NodeSet, sink: u32) -> Branch
+    ensures { λ r. ⌜ ((N : Network) → nodes .0 ≡ relevantNodes N → sink ≡ N .sink → r ≡ blank N) ⌝ }
+{
+    Branch {
+        side: NodeSet(0),
+        out: NodeSet(0),
+        undecided: nodes.without(sink),
+        rest: nodes,
+        border: NodeSet(0),
+        cut: EdgeSet(0),
+    }
+}
+
+// Writes the rows of an accepted network, given its relevant nodes and edges, and gives their number, at most one past the limit.
+pub fn enumerate(
+    network: Network,
+    nodes: NodeSet,
+    edges: EdgeSet,
+    cuts: &mut [u64],
+    sides: &mut [u32],
+    limit: usize,
+) -> usize
+    requires { ⌜ (faultOf network ≡ 0) × (nodes .0 ≡ relevantNodes network) × (edges .0 ≡ relevantEdges network)
+        × Room 0 limit (now cuts) (now sides) ⌝ }
+    ensures { λ r. ⌜ Put (rows network) 0 limit (now (cuts .entry)) (now (sides .entry)) (now (cuts .exit)) (now (sides .exit)) r ⌝ }
+{
+    let mut near = [0u32; 32];
+    let mut at = [0u64; 32];
+    fill_tables(network, edges, &mut near, &mut at);
+    let source = network.source as u32;
+    let sink = network.sink as u32;
+    let first = blank(nodes, sink);
+    join(&near, &at, sink, first, source, cuts, sides, 0, limit)
+}

@@ -1,0 +1,95 @@
+-- What the list call's answer means by the definitions of graph theory: the complete list, and "too many cuts".
+-- Assumes what the code's types say of the record.
+use mathlib.Core.Path.{_≡_, sym, ap, _∙_}
+use mathlib.Core.List.{List}
+use mathlib.Core.Logic.{_↔_, Iff·trans, Iff·symm}
+use Prim.Native.Nat.{ℕ, _≤_, _<_}
+use native.Mathlib.Nat.{lt-trans, lt-of-lt-of-le}
+use lib.ListN.{length, getD, drop, length-map, List·getD-append}
+use Rattle.lists.proofs.Places.{mem-place, getD-map}
+use Rattle.lists.proofs.Rising.{rising-places}
+use Rattle.lists.proofs.Distinct.{rising-distinct, distinct-at-most}
+use Rattle.network.specs.declared.Network.{Network}
+use Rattle.network.specs.Record.{Stored, faultOf}
+use Rattle.graph.specs.Reach.{Bounded}
+use Rattle.graph.specs.Lists.{CompleteList, Outnumber}
+use Rattle.graph.specs.Relevant.{sourceSideOf}
+use Rattle.graph.proofs.Sound.{Sound, accepted-sound}
+use Rattle.graph.proofs.Correspondence.{in-sourceSideOf}
+use Rattle.listing.specs.declared.Listed.{Listed}
+use Rattle.listing.specs.List.{mincuts, sourceSides, onto, listRefusal, listedBy, ListMeans}
+use Rattle.listing.proofs.Mincuts.{mincuts-lists}
+use Rattle.listing.proofs.Refusals.{refusal-outnumbered}
+use Rattle.listing.proofs.Call.{Answered, answer-refusal, complete-call}
+
+-- ---- the complete list
+
+-- The computed list is complete, each mincut beside its source side.
+pub mincuts-complete : (N : Network) → Sound N → CompleteList N (length (mincuts N)) (mincuts N) (sourceSides N)
+mincuts-complete N S =
+    let l : List ℕ = mincuts N in
+    let lists = mincuts-lists N (S .bounded) in record {
+      rising = rising-places l (lists .rising);
+      members = λ c. Iff·trans (Iff·symm (mem-place l c)) (lists .members c);
+      beside = λ i v h. rw (getD-map (sourceSideOf N) l i h) (in-sourceSideOf N S (getD l i 0) v);
+    }
+
+-- Below the length of a list that was written onto lent rows stands what stands in the list.
+pub getD-onto : (l lent : List ℕ) (i : ℕ) → i < length l → getD (onto l lent) i 0 ≡ getD l i 0
+getD-onto l lent i h = List·getD-append l (drop (length l) lent) 0 i h
+
+-- Written onto any rows, a complete list stays one.
+complete-onto : (N : Network) (l k cuts sides : List ℕ) → length k ≡ length l → CompleteList N (length l) l k
+    → CompleteList N (length l) (onto l cuts) (onto k sides)
+complete-onto N l k cuts sides paired whole =
+    let cut : (i : ℕ) → i < length l → getD (onto l cuts) i 0 ≡ getD l i 0 = getD-onto l cuts in record {
+      rising = λ i j h m. rw (cut i (lt-trans h m), cut j m) (whole .rising i j h m);
+      members = λ c. Iff·trans (
+        λ p. (p .0, p .1, sym (cut (p .0) (p .1)) ∙ p .2),
+        λ p. (p .0, p .1, cut (p .0) (p .1) ∙ p .2),
+      )
+          (whole .members c);
+      beside = λ i v h. rw (getD-onto k sides i (rw paired h), cut i h) (whole .beside i v h);
+    }
+
+-- ---- too many cuts
+
+-- The mincuts outnumber n exactly if the computed list is longer.
+pub outnumber-iff : (N : Network) → Bounded N → (n : ℕ) → (n < length (mincuts N)) ↔ Outnumber N n
+outnumber-iff N B n =
+    let lists = mincuts-lists N B in (
+      λ h. record {
+        named = mincuts N;
+        more = h;
+        distinct = rising-distinct (mincuts N) (lists .rising);
+        mincuts = λ c. lists .members c .0;
+      },
+      λ o. lt-of-lt-of-le (o .more) (distinct-at-most (o .named) (mincuts N) (o .distinct) (λ c m. lists .members c .1 (o .mincuts c m))),
+    )
+
+-- ---- the call
+
+module _ (N : Network) (stored : Stored N) (cuts sides : List ℕ) where
+  -- A call that gave the refusal 0 left the complete list.
+  pub call-complete : {r : Listed} {cuts′ sides′ : List ℕ} → Answered N cuts sides r cuts′ sides′ → r .refusal ≡ 0
+      → CompleteList N (r .count) cuts′ sides′
+  call-complete a none =
+      let (sound, left) = complete-call N stored cuts sides (sym (ap (λ (x : Listed). x .refusal) (a .0)) ∙ none) in
+      rw (a .0, a .1, a .2, ← left .0, ← left .1, ← left .2)
+      (complete-onto N (mincuts N) (sourceSides N) cuts sides (length-map (mincuts N) (sourceSideOf N)) (mincuts-complete N sound))
+
+  -- It gave 12 exactly if no earlier fault stands and the mincuts outnumber the rows.
+  pub call-outnumbered : {r : Listed} → r ≡ listedBy N cuts sides
+      → (r .refusal ≡ 12) ↔ ((faultOf N ≡ 0) × (length cuts ≡ length sides) × Outnumber N (length cuts))
+  call-outnumbered a =
+      let by : listRefusal N cuts sides ≡ _ = sym (ap (λ (x : Listed). x .refusal) a ∙ answer-refusal N cuts sides) in
+      let more : faultOf N ≡ 0 → (length cuts < length (mincuts N)) ↔ Outnumber N (length cuts) = λ ok.
+      outnumber-iff N (accepted-sound N stored ok .bounded) (length cuts) in (
+        λ e. let p = refusal-outnumbered N cuts sides .0 (by ∙ e) in (p .0, p .1, more (p .0) .0 (p .2)),
+        λ p. sym by ∙ refusal-outnumbered N cuts sides .1 (p .0, p .1, more (p .0) .1 (p .2)),
+      )
+
+  -- Beside the answer stands what it means.
+  pub answered-means : {r : Listed} {cuts′ sides′ : List ℕ} → Answered N cuts sides r cuts′ sides′
+      → Answered N cuts sides r cuts′ sides′ × ListMeans N cuts sides (r .refusal) (r .count) cuts′ sides′
+  answered-means a = (a, record { stored = stored; complete = call-complete a; outnumbered = call-outnumbered (a .0) })

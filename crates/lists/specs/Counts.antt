@@ -1,0 +1,21 @@
+-- How many members of a list pass a test, and lists that differ in the order of their members alone.
+--
+--   bit b                1 if b holds, else 0
+--   countIf p l          how many members of l pass the test p
+--   Permutation l m      each test is passed by as many members of l as of m; so each member stands in both equally often
+use mathlib.Core.Path.{_≡_}
+use mathlib.Core.Bool.{Bool, true, false}
+use mathlib.Core.List.{List, [], _∷_}
+use Prim.Native.Nat.{ℕ, suc}
+
+abbrev pub bit : Bool → ℕ
+bit true = 1
+bit false = 0
+
+module _ {A : Type 0} where
+  unfoldable pub countIf : (A → Bool) → List A → ℕ
+  countIf p [] = 0
+  countIf p (x ∷ l) = elim (p x) [ true ↦ suc (countIf p l) | false ↦ countIf p l ]
+
+  abbrev pub Permutation : List A → List A → Type 0
+  Permutation l m = (p : A → Bool) → countIf p l ≡ countIf p m

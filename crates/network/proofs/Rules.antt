@@ -1,0 +1,85 @@
+-- The record test finds no fault exactly if the record keeps the paper's rules.
+-- Assumes nothing.
+use mathlib.Core.Path.{_≡_, refl, ap, _∙_}
+use mathlib.Core.Bool.{Bool, true, false, cond, _||_}
+use mathlib.Core.Logic.{_↔_}
+use Prim.Native.Nat.{ℕ, _≤_, _<_}
+use native.Mathlib.Omega.{arith}
+use denote.Floats.{is-true}
+use borrow.Author.Tests.{ltb-false, le-ltb, lt-leb, ne-eqb}
+use lib.Dec.{T, leb, ltb, eqb}
+use Rattle.bitset.specs.Members.{_∈_}
+use Rattle.bitset.proofs.Sets.{∈-dec}
+use Rattle.network.specs.declared.Network.{Network}
+use Rattle.network.specs.Record.{_when_, sizeFault, pairFault, endFault, absentFault, hasEdge, firstEnd, secondEnd, slotFault, faultOf}
+use Rattle.network.specs.Rules.{Rules}
+use Rattle.network.proofs.Refusals.{none-then, when-none, none-when, or-none, size-none, pair-none}
+use Rattle.network.proofs.Slots.{Accepted, accepted, accepted-none}
+
+-- ---- values that keep a rule have no fault
+
+-- Two tests that fail fail together.
+none-or : {a b : Bool} → a ≡ false → b ≡ false → (a || b) ≡ false
+none-or p q i = p i || q i
+
+none-size : (n : ℕ) → 2 ≤ n → n ≤ 32 → sizeFault n ≡ 0
+unfolding sizeFault
+none-size n h k = none-when 4 (none-or (le-ltb n 2 h) (le-ltb 32 n k))
+
+none-pair : (x y n a b : ℕ) → a < n → b < n → (a ≡ b → ⊥) → pairFault x y n a b ≡ 0
+unfolding pairFault
+none-pair x y n a b h k differ = none-then _ (none-when x (none-or (lt-leb n a h) (lt-leb n b k))) ∙ none-when y (ne-eqb a b differ)
+
+none-absent : (a b : ℕ) → a ≡ 0 → b ≡ 0 → absentFault a b ≡ 0
+unfolding absentFault
+none-absent a b p q = none-when 13 (none-or (le-ltb 0 a (omega arith)) (le-ltb 0 b (omega arith)))
+
+-- An absent edge without a fault has both ends 0.
+absent-none : (a b : ℕ) → absentFault a b ≡ 0 → (a ≡ 0) × (b ≡ 0)
+unfolding absentFault
+absent-none a b e =
+    let q = or-none (ltb 0 a) (ltb 0 b) (when-none 13 (ltb 0 a || ltb 0 b) (omega arith) e) in
+    (omega (arith, ltb-false 0 a (q .0)), omega (arith, ltb-false 0 b (q .1)))
+
+-- ---- a slot
+
+-- By whether its edge is present.
+slot-present : (N : Network) (k : ℕ) → k ∈ N .present .0 → slotFault N k ≡ endFault (N .nodes) (firstEnd N k) (secondEnd N k)
+unfolding slotFault
+slot-present N k m = ap (λ (b : Bool). cond b (endFault (N .nodes) (firstEnd N k) (secondEnd N k)) (absentFault (firstEnd N k) (secondEnd N k))) (is-true (hasEdge N k) m)
+
+slot-absent : (N : Network) (k : ℕ) → (k ∈ N .present .0 → ⊥) → slotFault N k ≡ absentFault (firstEnd N k) (secondEnd N k)
+unfolding slotFault
+slot-absent N k n = go (hasEdge N k) n
+  where
+    go : (b : Bool) → (T b → ⊥) → cond b (endFault (N .nodes) (firstEnd N k) (secondEnd N k)) (absentFault (firstEnd N k) (secondEnd N k)) ≡ absentFault (firstEnd N k) (secondEnd N k)
+    go true n = absurd (n tt)
+    go false n = refl
+
+-- ---- the record
+
+-- The record test finds no fault exactly if the rules are kept.
+pub fault-rules : (N : Network) → (faultOf N ≡ 0) ↔ Rules N
+fault-rules N = (kept, λ r. accepted-none N (faultless r))
+  where
+    kept : faultOf N ≡ 0 → Rules N
+    kept e =
+        let a : Accepted N = accepted N e in record {
+          size = size-none (N .nodes) (a .size);
+          terminals = pair-none 5 6 (N .nodes) (N .source) (N .sink) (omega arith) (omega arith) (a .terminals);
+          present = λ k l m. pair-none 9 10 (N .nodes) (firstEnd N k) (secondEnd N k) (omega arith) (omega arith) (rw (slot-present N k m) at (a .slot-none k l));
+          absent = λ k l n. absent-none (firstEnd N k) (secondEnd N k) (rw (slot-absent N k n) at (a .slot-none k l));
+        }
+
+    slot-none : Rules N → (k : ℕ) → k < 64 → Dec (k ∈ N .present .0) → slotFault N k ≡ 0
+    slot-none r k l (yes m) =
+        let p = r .present k l m in
+        slot-present N k m ∙ none-pair 9 10 (N .nodes) (firstEnd N k) (secondEnd N k) (p .0) (p .1) (p .2)
+    slot-none r k l (no n) = let p = r .absent k l n in slot-absent N k n ∙ none-absent (firstEnd N k) (secondEnd N k) (p .0) (p .1)
+
+    faultless : Rules N → Accepted N
+    faultless r = record {
+      size = none-size (N .nodes) (r .size .0) (r .size .1);
+      terminals = none-pair 5 6 (N .nodes) (N .source) (N .sink) (r .terminals .0) (r .terminals .1) (r .terminals .2);
+      slot-none = λ k l. slot-none r k l (∈-dec k (N .present .0));
+    }

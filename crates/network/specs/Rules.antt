@@ -1,0 +1,15 @@
+-- The paper's rules for a record, as propositions.
+--
+--   Rules N      N keeps them all: it is a plan within the rules
+use mathlib.Core.Path.{_≡_}
+use Prim.Native.Nat.{ℕ, _≤_, _<_}
+use Rattle.bitset.specs.Members.{_∈_}
+use Rattle.network.specs.declared.Network.{Network}
+use Rattle.network.specs.Record.{firstEnd, secondEnd}
+
+pub record Rules (N : Network) : Type 0 where
+  pub size : (2 ≤ N .nodes) × (N .nodes ≤ 32)
+  pub terminals : (N .source < N .nodes) × (N .sink < N .nodes) × (N .source ≡ N .sink → ⊥)
+  pub present : (k : ℕ) → k < 64 → k ∈ N .present .0
+      → (firstEnd N k < N .nodes) × (secondEnd N k < N .nodes) × (firstEnd N k ≡ secondEnd N k → ⊥)
+  pub absent : (k : ℕ) → k < 64 → (k ∈ N .present .0 → ⊥) → (firstEnd N k ≡ 0) × (secondEnd N k ≡ 0)

@@ -1,0 +1,2 @@
+-- The laws of the width table.
+pub mod WidthTable

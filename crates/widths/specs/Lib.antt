@@ -1,0 +1,2 @@
+-- The definitions that the contracts of `widths` cite.
+pub mod Widths

@@ -1,0 +1,21 @@
+-- The width of a row is the number of edges in its cut; the table counts the rows of each width.
+--
+--   tabulate n f         f 0, f 1, .., f (n - 1)
+--   sum l                the sum of the numbers of l
+--   widthsOf cuts        for each width from 0 to 64, how many of the cuts have it
+use mathlib.Core.List.{List, [], _∷_}
+use Prim.Native.Nat.{ℕ, zero, suc, _+_}
+use lib.Dec.{eqb}
+use Rattle.bitset.specs.Members.{size}
+use Rattle.lists.specs.Counts.{countIf}
+
+unfoldable pub tabulate : ℕ → (ℕ → ℕ) → List ℕ
+tabulate zero f = []
+tabulate (suc n) f = f 0 ∷ tabulate n (λ k. f (suc k))
+
+unfoldable pub sum : List ℕ → ℕ
+sum [] = 0
+sum (x ∷ l) = x + sum l
+
+unfoldable pub widthsOf : List ℕ → List ℕ
+widthsOf cuts = tabulate 65 (λ w. countIf (λ c. eqb w (size 64 c)) cuts)
