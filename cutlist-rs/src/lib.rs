@@ -16,7 +16,8 @@
 //!     .with_edge(3, 1, 3)?
 //!     .with_edge(4, 2, 3)?;
 //!
-//! let rows = plan.mincuts()?;
+//! // At most 1,000 minimal cuts: a plan that has more is refused.
+//! let rows = plan.mincuts(1000)?;
 //! let lines: Vec<String> = rows.iter().map(|row| row.to_string()).collect();
 //! assert_eq!(lines, ["0 1 | 0", "1 2 3 | 0 1", "0 2 4 | 0 2", "3 4 | 0 1 2"]);
 //!
@@ -24,26 +25,27 @@
 //! assert_eq!(plan.classify(EdgeSet(0b00111))?, Verdict::NotMinimal);
 //!
 //! // Two cuts of two cables, two of three.
-//! let cuts: Vec<EdgeSet> = rows.iter().map(|row| row.cut).collect();
-//! assert_eq!(cutlist::widths(&cuts)[..5], [0, 0, 2, 2, 0]);
+//! assert_eq!(cutlist::widths(rows.cuts())[..5], [0, 0, 2, 2, 0]);
 //!
 //! // A plan travels as bytes, and bytes outside the rules are refused.
 //! let bytes = plan.encode()?;
 //! assert_eq!(Plan::decode(&bytes)?, plan);
 //! assert_eq!(Plan::decode(&bytes[..25]), Err(Refusal::StopsEarly));
-//! # Ok::<(), Refusal>(())
+//! # Ok::<(), Box<dyn std::error::Error>>(())
 //! ```
 
 #![deny(unsafe_code)]
 #![warn(missing_docs)]
 
+mod list;
 mod plan;
 mod refusal;
 mod sets;
 #[allow(unsafe_code)]
 mod sys;
 
-pub use plan::{widths, Mincut, Plan, Relevant, Verdict};
+pub use list::{ListError, Mincut, Mincuts};
+pub use plan::{widths, EdgeError, EdgeFault, Plan, Relevant, Verdict};
 pub use refusal::Refusal;
 pub use sets::{EdgeSet, Members, NodeSet};
 

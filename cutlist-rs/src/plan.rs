@@ -1,13 +1,15 @@
 //! Plans, and the calls on them.
 
+use std::error::Error;
 use std::fmt;
 
-use crate::refusal::Refusal;
+use crate::list::{ListError, Mincuts};
+use crate::refusal::{answer, Refusal};
 use crate::sets::{EdgeSet, NodeSet};
 use crate::sys::{self, Record};
 
 /// Bytes in the longest plan.
-const LONGEST: usize = 262;
+pub(crate) const LONGEST: usize = 262;
 
 /// Rows lent at first when the number of cuts is unknown.
 const FIRST_ROWS: usize = 64;
@@ -15,15 +17,6 @@ const FIRST_ROWS: usize = 64;
 /// A plan without fault: points, one of them the server and one the room, and cables between them.
 #[derive(Clone, Debug, PartialEq, Eq)]
 pub struct Plan(Record);
-
-/// A minimal cut and its near side, the useful points that the server still reaches without it.
-#[derive(Clone, Copy, Debug, PartialEq, Eq, Hash)]
-pub struct Mincut {
-    /// The cables of the cut.
-    pub cut: EdgeSet,
-    /// The points of the near side.
-    pub side: NodeSet,
-}
 
 /// The useful part of a plan: what lies on some route from server to room.
 #[derive(Clone, Copy, Debug, PartialEq, Eq, Hash)]
@@ -45,39 +38,114 @@ pub enum Verdict {
     Minimal,
 }
 
-/// The answer to a call that gave this number.
-fn answer<T>(number: u8, result: T) -> Result<T, Refusal> {
-    match Refusal::from_number(number) {
-        None if number == 0 => Ok(result),
-        None => unreachable!("the library gave the number {number}"),
-        Some(refusal) => Err(refusal),
+impl Verdict {
+    /// The verdict of this number.
+    pub(crate) fn from_number(number: u8) -> Result<Verdict, Refusal> {
+        match number {
+            1 => Ok(Verdict::NotACut),
+            2 => Ok(Verdict::NotMinimal),
+            3 => Ok(Verdict::Minimal),
+            _ => Err(Refusal::Unknown(number)),
+        }
     }
 }
+
+/// In the paper's words.
+impl fmt::Display for Verdict {
+    fn fmt(&self, f: &mut fmt::Formatter<'_>) -> fmt::Result {
+        f.write_str(match self {
+            Verdict::NotACut => "not a cut",
+            Verdict::NotMinimal => "a cut but not minimal",
+            Verdict::Minimal => "minimal",
+        })
+    }
+}
+
+/// Why a cable cannot be added to a plan.
+#[derive(Clone, Copy, Debug, PartialEq, Eq, Hash)]
+#[non_exhaustive]
+pub enum EdgeFault {
+    /// The plan has a cable of this number already.
+    Taken,
+    /// A plan with this cable would be refused: [`Refusal::CableNumber`], [`Refusal::CableEnd`] or
+    /// [`Refusal::EndsAtOne`].
+    Refused(Refusal),
+}
+
+impl From<Refusal> for EdgeFault {
+    fn from(refusal: Refusal) -> EdgeFault {
+        EdgeFault::Refused(refusal)
+    }
+}
+
+impl fmt::Display for EdgeFault {
+    fn fmt(&self, f: &mut fmt::Formatter<'_>) -> fmt::Result {
+        match self {
+            EdgeFault::Taken => f.write_str("the plan has a cable of this number already"),
+            EdgeFault::Refused(refusal) => refusal.fmt(f),
+        }
+    }
+}
+
+/// A cable was not added. The plan is given back as it was.
+#[derive(Clone, Debug, PartialEq, Eq)]
+pub struct EdgeError {
+    plan: Plan,
+    fault: EdgeFault,
+}
+
+impl EdgeError {
+    /// Why the cable was not added.
+    pub fn fault(&self) -> EdgeFault {
+        self.fault
+    }
+
+    /// The plan without the cable.
+    pub fn into_plan(self) -> Plan {
+        self.plan
+    }
+}
+
+impl fmt::Display for EdgeError {
+    fn fmt(&self, f: &mut fmt::Formatter<'_>) -> fmt::Result {
+        self.fault.fmt(f)
+    }
+}
+
+impl Error for EdgeError {}
 
 impl Plan {
     /// A plan without cables: its point count, its server and its room.
     pub fn new(nodes: u8, source: u8, sink: u8) -> Result<Plan, Refusal> {
-        Plan(Record::bare(nodes, source, sink)).tested()
+        Plan::tested(Record::bare(nodes, source, sink))
     }
 
-    /// The same plan with one more cable. Cables may be added in any order; a number that is taken
-    /// already is refused with [`Refusal::CableOrder`].
-    pub fn with_edge(mut self, number: u8, first: u8, second: u8) -> Result<Plan, Refusal> {
+    /// The same plan with one more cable. Cables may be added in any order. If this one does not
+    /// fit, the error has the plan as it was ([`EdgeError::into_plan`]).
+    // The plan that an error holds is as large as the plan of a success.
+    #[allow(clippy::result_large_err)]
+    pub fn with_edge(self, number: u8, first: u8, second: u8) -> Result<Plan, EdgeError> {
+        self.and_edge(number, first, second)
+            .map_err(|fault| EdgeError { plan: self, fault })
+    }
+
+    fn and_edge(&self, number: u8, first: u8, second: u8) -> Result<Plan, EdgeFault> {
         let slot = usize::from(number);
         if slot >= sys::SLOTS {
-            return Err(Refusal::CableNumber);
+            return Err(EdgeFault::Refused(Refusal::CableNumber));
         }
         if self.present().contains(number) {
-            return Err(Refusal::CableOrder);
+            return Err(EdgeFault::Taken);
         }
-        self.0.present |= 1 << slot;
-        self.0.first[slot] = first;
-        self.0.second[slot] = second;
-        self.tested()
+        let mut record = self.0.clone();
+        record.present |= 1 << slot;
+        record.first[slot] = first;
+        record.second[slot] = second;
+        Ok(Plan::tested(record)?)
     }
 
-    fn tested(self) -> Result<Plan, Refusal> {
-        answer(sys::fault(&self.0), self)
+    fn tested(record: Record) -> Result<Plan, Refusal> {
+        answer(sys::fault(&record), Plan(record))
     }
 
     /// Reads a plan.
@@ -128,31 +196,33 @@ impl Plan {
         present.then(|| (self.0.first[slot], self.0.second[slot]))
     }
 
-    /// The minimal cuts in rising order of their numbers. Without a route that is one, the empty
-    /// cut. There may be very many: a plan of n points can have 2^(n - 2).
-    pub fn mincuts(&self) -> Result<Vec<Mincut>, Refusal> {
-        let mut rows = FIRST_ROWS;
+    /// The minimal cuts, if there are at most so many; else [`Refusal::MoreCuts`]. Without a route
+    /// there is one, the empty cut. There may be very many: a plan of n points can have 2^(n - 2).
+    ///
+    /// Memory is asked for as the list needs it, and never for more rows than `most`, each of 12
+    /// bytes. If it is not there, that is an error too.
+    pub fn mincuts(&self, most: usize) -> Result<Mincuts, ListError> {
+        let mut rows = most.min(FIRST_ROWS);
         loop {
-            let mut cuts = vec![0; rows];
-            let mut sides = vec![0; rows];
-            match self.list_into(&mut cuts, &mut sides) {
-                Err(Refusal::MoreCuts) => rows *= 2,
-                Err(refusal) => return Err(refusal),
-                Ok(count) => {
-                    let listed = cuts.into_iter().zip(sides).take(count);
-                    let row = |(cut, side)| Mincut {
-                        cut: EdgeSet(cut),
-                        side: NodeSet(side),
-                    };
-                    return Ok(listed.map(row).collect());
+            match self.mincuts_in(rows) {
+                Err(ListError::Refused(Refusal::MoreCuts)) if rows < most => {
+                    rows = rows.saturating_mul(2).min(most);
                 }
+                result => return result,
             }
         }
     }
 
+    /// The minimal cuts, in memory for so many rows.
+    fn mincuts_in(&self, rows: usize) -> Result<Mincuts, ListError> {
+        let mut list = Mincuts::rows(rows)?;
+        let count = self.list_into(&mut list.cuts, &mut list.sides)?;
+        Ok(list.first(count))
+    }
+
     /// Lists the minimal cuts into lent rows, equally many for cuts and near sides, and gives how
     /// many there are. Later rows, and all of them on refusal, hold what they held.
-    pub fn list_into(&self, cuts: &mut [u64], sides: &mut [u32]) -> Result<usize, Refusal> {
+    pub fn list_into(&self, cuts: &mut [EdgeSet], sides: &mut [NodeSet]) -> Result<usize, Refusal> {
         let (number, count) = sys::list(&self.0, cuts, sides);
         answer(number, count)
     }
@@ -171,19 +241,7 @@ impl Plan {
     pub fn classify(&self, set: EdgeSet) -> Result<Verdict, Refusal> {
         let (number, verdict) = sys::classify(&self.0, set.0);
         answer(number, ())?;
-        Ok(match verdict {
-            1 => Verdict::NotACut,
-            2 => Verdict::NotMinimal,
-            3 => Verdict::Minimal,
-            _ => unreachable!("the library gave the verdict {verdict}"),
-        })
-    }
-}
-
-/// As the list program prints it: cut, bar, near side.
-impl fmt::Display for Mincut {
-    fn fmt(&self, f: &mut fmt::Formatter<'_>) -> fmt::Result {
-        write!(f, "{} | {}", self.cut, self.side)
+        Verdict::from_number(verdict)
     }
 }
 
@@ -194,6 +252,8 @@ pub fn widths(cuts: &[EdgeSet]) -> [u64; sys::WIDTHS] {
 
 #[cfg(test)]
 mod tests {
+    use std::time::{Duration, Instant};
+
     use super::*;
 
     const BRIDGE: [u8; 26] = [
@@ -213,12 +273,19 @@ mod tests {
         hall(4, 3, &[(0, 1), (0, 2), (1, 2), (1, 3), (2, 3)])
     }
 
+    /// Server and room each joined to every one of the points between them: 2^middle minimal cuts.
+    fn two_hubs(middle: u8) -> Plan {
+        let ends: Vec<(u8, u8)> = (1..=middle)
+            .flat_map(|node| [(0, node), (node, middle + 1)])
+            .collect();
+        hall(middle + 2, middle + 1, &ends)
+    }
+
     #[test]
     fn a_plan_is_built_cable_by_cable_in_any_order() {
-        let plan = Plan::new(3, 2, 0)
-            .and_then(|plan| plan.with_edge(63, 0, 1))
-            .and_then(|plan| plan.with_edge(5, 2, 1))
-            .expect("accepted");
+        let plan = Plan::new(3, 2, 0).expect("accepted");
+        let plan = plan.with_edge(63, 0, 1).expect("accepted");
+        let plan = plan.with_edge(5, 2, 1).expect("accepted");
         assert_eq!((plan.nodes(), plan.source(), plan.sink()), (3, 2, 0));
         assert_eq!(plan.present(), EdgeSet(1 << 63 | 1 << 5));
         assert_eq!(plan.ends(5), Some((2, 1)));
@@ -232,10 +299,30 @@ mod tests {
         assert_eq!(Plan::new(33, 0, 1), Err(Refusal::PointCount));
         assert_eq!(Plan::new(2, 0, 2), Err(Refusal::ServerOrRoom));
         assert_eq!(Plan::new(2, 1, 1), Err(Refusal::ServerIsRoom));
-        assert_eq!(bridge().with_edge(64, 0, 1), Err(Refusal::CableNumber));
-        assert_eq!(bridge().with_edge(4, 0, 1), Err(Refusal::CableOrder));
-        assert_eq!(bridge().with_edge(5, 0, 4), Err(Refusal::CableEnd));
-        assert_eq!(bridge().with_edge(5, 2, 2), Err(Refusal::EndsAtOne));
+    }
+
+    #[test]
+    fn a_cable_that_does_not_fit_leaves_the_plan_as_it_was() {
+        let refused = |number, first, second| {
+            let error = bridge()
+                .with_edge(number, first, second)
+                .expect_err("unfit");
+            let fault = error.fault();
+            assert_eq!(error.to_string(), fault.to_string());
+            assert_eq!(error.into_plan(), bridge());
+            fault
+        };
+        assert_eq!(refused(64, 0, 1), EdgeFault::Refused(Refusal::CableNumber));
+        assert_eq!(refused(255, 0, 1), EdgeFault::Refused(Refusal::CableNumber));
+        assert_eq!(refused(4, 0, 1), EdgeFault::Taken);
+        assert_eq!(refused(4, 9, 9), EdgeFault::Taken);
+        assert_eq!(refused(5, 0, 4), EdgeFault::Refused(Refusal::CableEnd));
+        assert_eq!(refused(5, 2, 2), EdgeFault::Refused(Refusal::EndsAtOne));
+
+        // The plan that was given back takes the next cable.
+        let error = bridge().with_edge(4, 0, 3).expect_err("taken");
+        let plan = error.into_plan().with_edge(5, 0, 3).expect("accepted");
+        assert_eq!(plan.ends(5), Some((0, 3)));
     }
 
     #[test]
@@ -266,17 +353,21 @@ mod tests {
 
     #[test]
     fn the_bridge_is_listed() {
-        let rows = bridge().mincuts().expect("listed");
-        let numbers: Vec<(u64, u32)> = rows.iter().map(|row| (row.cut.0, row.side.0)).collect();
-        assert_eq!(numbers, [(3, 1), (14, 3), (21, 5), (24, 7)]);
-        assert_eq!(rows[1].to_string(), "1 2 3 | 0 1");
+        let rows = bridge().mincuts(10).expect("listed");
+        assert_eq!(rows.cuts(), [3, 14, 21, 24].map(EdgeSet));
+        assert_eq!(rows.sides(), [1, 3, 5, 7].map(NodeSet));
+        let lines: Vec<String> = rows.iter().map(|row| row.to_string()).collect();
+        assert_eq!(
+            lines,
+            ["0 1 | 0", "1 2 3 | 0 1", "0 2 4 | 0 2", "3 4 | 0 1 2"]
+        );
     }
 
     #[test]
     fn no_route_is_the_empty_cut() {
-        let rows = hall(2, 1, &[]).mincuts().expect("listed");
-        assert_eq!(rows.len(), 1);
-        assert_eq!(rows[0].to_string(), "- | 0");
+        let rows = hall(2, 1, &[]).mincuts(1).expect("listed");
+        let lines: Vec<String> = rows.iter().map(|row| row.to_string()).collect();
+        assert_eq!(lines, ["- | 0"]);
     }
 
     #[test]
@@ -284,27 +375,62 @@ mod tests {
         let ends: Vec<(u8, u8)> = (0..11)
             .flat_map(|one| (one + 1..11).map(move |other| (one, other)))
             .collect();
-        let rows = hall(11, 10, &ends).mincuts().expect("listed");
-        assert_eq!(rows.len(), 512);
-        assert!(rows.is_sorted_by(|one, next| one.cut < next.cut));
+        let eleven = hall(11, 10, &ends);
+        let rows = eleven.mincuts(512).expect("listed");
+        assert_eq!((rows.cuts().len(), rows.sides().len()), (512, 512));
+        assert!(rows.cuts().is_sorted_by(|one, next| one < next));
+        // A bound that no memory could hold is never asked for at once.
+        assert_eq!(eleven.mincuts(usize::MAX), Ok(rows));
+    }
+
+    const OUTNUMBERED: Result<Mincuts, ListError> = Err(ListError::Refused(Refusal::MoreCuts));
+
+    #[test]
+    fn more_cuts_than_the_bound_are_an_error() {
+        assert_eq!(bridge().mincuts(3), OUTNUMBERED);
+        assert!(bridge().mincuts(4).is_ok());
+        assert_eq!(hall(2, 1, &[]).mincuts(0), OUTNUMBERED);
+        let eight = two_hubs(8);
+        assert_eq!(eight.mincuts(255), OUTNUMBERED);
+        assert_eq!(eight.mincuts(256).expect("listed").cuts().len(), 256);
+    }
+
+    #[test]
+    fn a_hall_with_very_many_cuts_is_refused_at_once() {
+        let plan = two_hubs(30);
+        assert_eq!(plan.encode().map(|bytes| bytes.len()), Ok(246));
+        let start = Instant::now();
+        for most in [0, 1, 63, 64, 65, 2048, 100_000] {
+            assert_eq!(plan.mincuts(most), OUTNUMBERED);
+        }
+        assert!(start.elapsed() < Duration::from_secs(1));
+    }
+
+    #[test]
+    fn memory_that_is_not_there_is_an_error() {
+        for rows in [usize::MAX, usize::MAX / 8, usize::MAX / 16] {
+            let error = bridge().mincuts_in(rows).expect_err("too much memory");
+            assert!(matches!(error, ListError::Memory(_)), "{error:?}");
+        }
     }
 
     #[test]
     fn lent_rows_past_the_list_hold_what_they_held() {
-        let (mut cuts, mut sides) = ([7; 5], [9; 5]);
+        let (mut cuts, mut sides) = ([EdgeSet(7); 5], [NodeSet(9); 5]);
         assert_eq!(bridge().list_into(&mut cuts, &mut sides), Ok(4));
-        assert_eq!((cuts, sides), ([3, 14, 21, 24, 7], [1, 3, 5, 7, 9]));
+        assert_eq!(cuts, [3, 14, 21, 24, 7].map(EdgeSet));
+        assert_eq!(sides, [1, 3, 5, 7, 9].map(NodeSet));
     }
 
     #[test]
     fn lent_rows_must_suffice_and_be_equally_many() {
-        let (mut cuts, mut sides) = ([7; 4], [9; 4]);
+        let (mut cuts, mut sides) = ([EdgeSet(7); 4], [NodeSet(9); 4]);
         let short = bridge().list_into(&mut cuts[..3], &mut sides[..3]);
         assert_eq!(short, Err(Refusal::MoreCuts));
         let uneven = bridge().list_into(&mut cuts, &mut sides[..3]);
         assert_eq!(uneven, Err(Refusal::RowsDiffer));
         assert_eq!(bridge().list_into(&mut [], &mut []), Err(Refusal::MoreCuts));
-        assert_eq!((cuts, sides), ([7; 4], [9; 4]));
+        assert_eq!((cuts, sides), ([EdgeSet(7); 4], [NodeSet(9); 4]));
     }
 
     #[test]
@@ -323,6 +449,13 @@ mod tests {
         assert_eq!(bridge().classify(EdgeSet(7)), Ok(Verdict::NotMinimal));
         assert_eq!(bridge().classify(EdgeSet(14)), Ok(Verdict::Minimal));
         assert_eq!(bridge().classify(EdgeSet(1 << 5)), Err(Refusal::NotPresent));
+    }
+
+    #[test]
+    fn a_verdict_that_is_not_known_is_an_error() {
+        for number in (0..=u8::MAX).filter(|number| !(1..=3).contains(number)) {
+            assert_eq!(Verdict::from_number(number), Err(Refusal::Unknown(number)));
+        }
     }
 
     #[test]

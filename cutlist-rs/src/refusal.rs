@@ -3,119 +3,111 @@
 use std::error::Error;
 use std::fmt;
 
-/// Why a call refused. Its text names bytes in hexadecimal.
-#[derive(Clone, Copy, Debug, PartialEq, Eq, Hash)]
-#[repr(u8)]
-pub enum Refusal {
-    /// 1: the plan stops early.
-    StopsEarly = 1,
-    /// 2: a byte that is no command fit for its place.
-    UnfitByte = 2,
-    /// 3: a byte after 45.
-    ByteAfterEnd = 3,
-    /// 4: point count not 2 to 32.
-    PointCount = 4,
-    /// 5: server or room not below the point count.
-    ServerOrRoom = 5,
-    /// 6: server and room the same point.
-    ServerIsRoom = 6,
-    /// 7: cable number above 63.
-    CableNumber = 7,
-    /// 8: cable number not above the one before.
-    CableOrder = 8,
-    /// 9: a cable end not below the point count.
-    CableEnd = 9,
-    /// 10: both ends of a cable at one point.
-    EndsAtOne = 10,
-    /// 11: cut rows and side rows differ in number.
-    RowsDiffer = 11,
-    /// 12: more minimal cuts than rows lent.
-    MoreCuts = 12,
-    /// 13: an absent cable with an end not 0. A [`Plan`](crate::Plan) never has one.
-    AbsentWithEnd = 13,
-    /// 14: a judged set holds a cable not present.
-    NotPresent = 14,
-    /// 15: the plan needs more bytes than were lent.
-    MoreBytes = 15,
+/// Makes the refusals from one table: each one's number, its name and the paper's words for it.
+macro_rules! refusals {
+    ($($number:literal $name:ident $words:literal)*) => {
+        /// Why a call refused. Its text is the paper's words, which name bytes in hexadecimal.
+        ///
+        /// More refusals come with more calls, and their numbers need not follow on these.
+        #[derive(Clone, Copy, Debug, PartialEq, Eq, Hash)]
+        #[non_exhaustive]
+        pub enum Refusal {
+            $(
+                #[doc = concat!(stringify!($number), ": ", $words, ".")]
+                $name,
+            )*
+            /// The library answered with this number, which the crate does not know: the two are
+            /// of different versions.
+            #[non_exhaustive]
+            Unknown(u8),
+        }
+
+        impl Refusal {
+            /// Every refusal that the crate knows, in the order of the numbers.
+            pub const ALL: &'static [Refusal] = &[$(Refusal::$name),*];
+
+            /// The refusal's number.
+            pub fn number(self) -> u8 {
+                match self {
+                    $(Refusal::$name => $number,)*
+                    Refusal::Unknown(number) => number,
+                }
+            }
+        }
+
+        impl fmt::Display for Refusal {
+            fn fmt(&self, f: &mut fmt::Formatter<'_>) -> fmt::Result {
+                match self {
+                    $(Refusal::$name => f.write_str($words),)*
+                    Refusal::Unknown(number) => {
+                        write!(f, "the number {number}, which this version does not know")
+                    }
+                }
+            }
+        }
+    };
+}
+
+refusals! {
+    1 StopsEarly "the plan stops early"
+    2 UnfitByte "a byte that is no command fit for its place"
+    3 ByteAfterEnd "a byte after 45"
+    4 PointCount "point count not 2 to 32"
+    5 ServerOrRoom "server or room not below the point count"
+    6 ServerIsRoom "server and room the same point"
+    7 CableNumber "cable number above 63"
+    8 CableOrder "cable number not above the one before"
+    9 CableEnd "a cable end not below the point count"
+    10 EndsAtOne "both ends of a cable at one point"
+    11 RowsDiffer "cut rows and side rows differ in number"
+    12 MoreCuts "more minimal cuts than rows lent"
+    13 AbsentWithEnd "an absent cable with an end not 0"
+    14 NotPresent "a judged set holds a cable not present"
+    15 MoreBytes "the plan needs more bytes than were lent"
 }
 
 impl Refusal {
-    /// Every refusal, in the order of the numbers.
-    pub const ALL: [Refusal; 15] = [
-        Refusal::StopsEarly,
-        Refusal::UnfitByte,
-        Refusal::ByteAfterEnd,
-        Refusal::PointCount,
-        Refusal::ServerOrRoom,
-        Refusal::ServerIsRoom,
-        Refusal::CableNumber,
-        Refusal::CableOrder,
-        Refusal::CableEnd,
-        Refusal::EndsAtOne,
-        Refusal::RowsDiffer,
-        Refusal::MoreCuts,
-        Refusal::AbsentWithEnd,
-        Refusal::NotPresent,
-        Refusal::MoreBytes,
-    ];
-
-    /// The refusal's number, 1 to 15.
-    pub fn number(self) -> u8 {
-        self as u8
-    }
-
-    /// The refusal of this number.
+    /// The refusal of this number, if the crate knows one.
     pub fn from_number(number: u8) -> Option<Refusal> {
-        Refusal::ALL.into_iter().find(|r| r.number() == number)
-    }
-}
-
-impl fmt::Display for Refusal {
-    fn fmt(&self, f: &mut fmt::Formatter<'_>) -> fmt::Result {
-        f.write_str(match self {
-            Refusal::StopsEarly => "the plan stops early",
-            Refusal::UnfitByte => "a byte that is no command fit for its place",
-            Refusal::ByteAfterEnd => "a byte after 45",
-            Refusal::PointCount => "point count not 2 to 32",
-            Refusal::ServerOrRoom => "server or room not below the point count",
-            Refusal::ServerIsRoom => "server and room the same point",
-            Refusal::CableNumber => "cable number above 63",
-            Refusal::CableOrder => "cable number not above the one before",
-            Refusal::CableEnd => "a cable end not below the point count",
-            Refusal::EndsAtOne => "both ends of a cable at one point",
-            Refusal::RowsDiffer => "cut rows and side rows differ in number",
-            Refusal::MoreCuts => "more minimal cuts than rows lent",
-            Refusal::AbsentWithEnd => "an absent cable with an end not 0",
-            Refusal::NotPresent => "a judged set holds a cable not present",
-            Refusal::MoreBytes => "the plan needs more bytes than were lent",
-        })
+        let mut all = Refusal::ALL.iter().copied();
+        all.find(|refusal| refusal.number() == number)
     }
 }
 
 impl Error for Refusal {}
 
+/// The answer to a call that gave this number beside its result: complete only if it is 0.
+pub(crate) fn answer<T>(number: u8, result: T) -> Result<T, Refusal> {
+    match number {
+        0 => Ok(result),
+        _ => Err(Refusal::from_number(number).unwrap_or(Refusal::Unknown(number))),
+    }
+}
+
 #[cfg(test)]
 mod tests {
-    use super::Refusal;
+    use super::{answer, Refusal};
 
     #[test]
-    fn numbers_run_from_1_to_15_and_lead_back() {
-        for (place, refusal) in Refusal::ALL.into_iter().enumerate() {
-            assert_eq!(usize::from(refusal.number()), place + 1);
+    fn numbers_lead_back() {
+        for &refusal in Refusal::ALL {
             assert_eq!(Refusal::from_number(refusal.number()), Some(refusal));
+            assert_eq!(answer(refusal.number(), ()), Err(refusal));
         }
         assert_eq!(Refusal::from_number(0), None);
-        assert_eq!(Refusal::from_number(16), None);
+        assert_eq!(answer(0, "result"), Ok("result"));
     }
 
     #[test]
-    fn the_words_are_those_of_the_header() {
-        let header = include_str!("../../include/cutlist.h");
-        let spaced: Vec<&str> = header.split_whitespace().collect();
-        let header = spaced.join(" ").replace(',', "");
-        for refusal in Refusal::ALL {
-            let constant = format!("= {} /* {refusal} */", refusal.number());
-            assert!(header.contains(&constant), "{constant}");
+    fn a_number_that_is_not_known_is_a_refusal_too() {
+        let known = |&number: &u8| Refusal::from_number(number).is_some();
+        let unknown: Vec<u8> = (1..=u8::MAX).filter(|number| !known(number)).collect();
+        assert!(unknown.contains(&u8::MAX));
+        for number in unknown {
+            let refusal = answer(number, ()).expect_err("no success");
+            assert_eq!(refusal, Refusal::Unknown(number));
+            assert_eq!(refusal.number(), number);
+            assert!(refusal.to_string().contains(&number.to_string()));
         }
     }
 }

@@ -1,7 +1,7 @@
 //! The library's functions: all that is unsafe. Each gives the refusal's number, 0 if there is
 //! none, beside its result.
 
-use crate::sets::EdgeSet;
+use crate::sets::{EdgeSet, NodeSet};
 
 /// Slots for cables.
 pub const SLOTS: usize = 64;
@@ -184,9 +184,10 @@ pub fn classify(r: &Record, set: u64) -> (u8, u8) {
 }
 
 /// Lists the minimal cuts into lent rows: the count.
-pub fn list(r: &Record, cuts: &mut [u64], sides: &mut [u32]) -> (u8, usize) {
+pub fn list(r: &Record, cuts: &mut [EdgeSet], sides: &mut [NodeSet]) -> (u8, usize) {
     let mut count = 0;
-    // SAFETY: each pointer is valid for its type and length, and no two overlap.
+    // SAFETY: each pointer is valid for its type and length, and no two overlap. A set is laid out
+    // as its number, being transparent.
     let refusal = unsafe {
         cutlist_list(
             r.nodes,
@@ -195,9 +196,9 @@ pub fn list(r: &Record, cuts: &mut [u64], sides: &mut [u32]) -> (u8, usize) {
             r.present,
             &r.first,
             &r.second,
-            cuts.as_mut_ptr(),
+            cuts.as_mut_ptr().cast(),
             cuts.len(),
-            sides.as_mut_ptr(),
+            sides.as_mut_ptr().cast(),
             sides.len(),
             &mut count,
         )
