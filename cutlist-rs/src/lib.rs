@@ -37,6 +37,8 @@
 #![deny(unsafe_code)]
 #![warn(missing_docs)]
 
+#[cfg(test)]
+mod agreement;
 mod list;
 mod plan;
 mod refusal;

@@ -1,0 +1,163 @@
+//! The header and this crate against the sources of the library: numbers, words and sizes, each
+//! read where it stands.
+
+use std::collections::{BTreeMap, BTreeSet};
+use std::fmt::{Debug, Display};
+use std::str::FromStr;
+
+use crate::plan::{Verdict, LONGEST};
+use crate::refusal::Refusal;
+use crate::sys;
+
+const HEADER: &str = include_str!("../../include/cutlist.h");
+const REFUSALS: &str = include_str!("../../crates/network/src/refusal.rt");
+const JUDGING: &str = include_str!("../../crates/reach/src/judging.rt");
+const EXPORTED: &str = include_str!("../../crates/capi/src/lib.rt");
+const LONGEST_PROVED: &str = include_str!("../../crates/format/proofs/Longest.antt");
+const DECIDING_PROVED: &str = include_str!("../../crates/format/proofs/Prefix.antt");
+
+/// Words by number.
+type Words = BTreeMap<u8, String>;
+
+/// Names of the header and words by number.
+type Named = BTreeMap<u8, (String, String)>;
+
+/// Entries by number, of which none may come twice.
+fn table<T>(entries: impl IntoIterator<Item = (u8, T)>) -> BTreeMap<u8, T> {
+    let mut table = BTreeMap::new();
+    for (number, entry) in entries {
+        let before = table.insert(number, entry);
+        assert!(before.is_none(), "the number {number} stands twice");
+    }
+    table
+}
+
+/// The parts of a text before and behind a mark, the first of its kind.
+fn parted<'a>(text: &'a str, mark: &str) -> (&'a str, &'a str) {
+    text.split_once(mark)
+        .unwrap_or_else(|| panic!("no {mark:?} in {text:?}"))
+}
+
+/// What stands between two marks.
+fn between<'a>(text: &'a str, before: &str, after: &str) -> &'a str {
+    parted(parted(text, before).1, after).0
+}
+
+fn number<N: FromStr>(digits: &str) -> N {
+    let digits = digits.trim();
+    digits.parse().unwrap_or_else(|_| panic!("{digits:?}"))
+}
+
+/// The constants of refusal.rt: `pub const NAME: u8 = N; // words`.
+fn refusals_of_the_library() -> Words {
+    let lines = REFUSALS.lines().filter(|line| line.starts_with("pub "));
+    table(lines.map(|line| {
+        let (constant, words) = parted(line, "// ");
+        let value = between(constant, ": u8 = ", ";");
+        (number(value), words.to_string())
+    }))
+}
+
+/// The verdicts of judging.rt by the comment at `verdict_number`, "1 not a cut, 2 ..; 0 for no
+/// verdict", which must have the numbers of the code.
+fn verdicts_of_the_library() -> Words {
+    let (above, code) = parted(JUDGING, "\npub fn verdict_number(");
+    let comment = above.lines().next_back().expect("a comment");
+    let verdicts = between(comment, ": ", "; 0 for no verdict").split(", ");
+    let words = table(verdicts.map(|verdict| {
+        let (value, words) = parted(verdict, " ");
+        (number(value), words.to_string())
+    }));
+    let arms = between(code, "match verdict {", "\n    }").lines();
+    let given: BTreeSet<u8> = arms
+        .filter(|arm| !arm.is_empty())
+        .map(|arm| number(between(arm, "=>", ",")))
+        .collect();
+    assert!(given.iter().eq([0].iter().chain(words.keys())), "{given:?}");
+    words
+}
+
+/// An enum of the header without its 0: `NAME = N, /* words */`, the last without the comma.
+fn enum_of_the_header(name: &str) -> Named {
+    let inside = between(HEADER, &format!("enum {name} {{"), "};");
+    let lines = inside.lines().filter(|line| line.contains('='));
+    let mut entries = table(lines.map(|line| {
+        let (name, rest) = parted(line, "=");
+        let (value, words) = rest.split_once("/*").unwrap_or((rest, "*/"));
+        let words = words.strip_suffix("*/").expect("one comment").trim();
+        let value = value.trim_end().trim_end_matches(',');
+        (number(value), (name.trim().to_string(), words.to_string()))
+    }));
+    assert!(entries.remove(&0).is_some(), "no number 0");
+    entries
+}
+
+/// An item of this crate as the header has it: its name, `StopsEarly` being CUTLIST_STOPS_EARLY,
+/// and its words.
+fn named(item: impl Debug + Display) -> (String, String) {
+    let mut name = String::from("CUTLIST");
+    for letter in format!("{item:?}").chars() {
+        if letter.is_uppercase() {
+            name.push('_');
+        }
+        name.push(letter.to_ascii_uppercase());
+    }
+    (name, item.to_string())
+}
+
+fn words_of(named: &Named) -> Words {
+    let entries = named.iter();
+    entries.map(|(&k, (_, words))| (k, words.clone())).collect()
+}
+
+/// A size that the header defines.
+fn size_of_the_header(name: &str) -> usize {
+    number(between(HEADER, &format!("#define {name} "), "\n"))
+}
+
+/// The lengths of the arrays that the exported functions take: `[T; N]`.
+fn arrays_of_the_library(element: &str) -> BTreeSet<usize> {
+    let start = format!("[{element}; ");
+    let parts = EXPORTED.split(&start).skip(1);
+    parts.map(|part| number(parted(part, "]").0)).collect()
+}
+
+#[test]
+fn refusals_agree() {
+    let library = refusals_of_the_library();
+    let header = enum_of_the_header("cutlist_refusal");
+    let this = table(Refusal::ALL.iter().map(|r| (r.number(), named(r))));
+    assert_eq!(words_of(&header), library, "header and library");
+    assert_eq!(this, header, "crate and header");
+    assert!(Refusal::ALL.is_sorted_by_key(|refusal| refusal.number()));
+}
+
+#[test]
+fn verdicts_agree() {
+    let library = verdicts_of_the_library();
+    let header = enum_of_the_header("cutlist_verdict");
+    let verdict = |k| Some((k, named(Verdict::from_number(k).ok()?)));
+    let this = table((0..=u8::MAX).filter_map(verdict));
+    assert_eq!(words_of(&header), library, "header and library");
+    assert_eq!(this, header, "crate and header");
+}
+
+#[test]
+fn sizes_agree() {
+    let slots = size_of_the_header("CUTLIST_SLOTS");
+    assert_eq!(sys::SLOTS, slots);
+    assert_eq!(arrays_of_the_library("u8"), BTreeSet::from([slots]));
+
+    let widths = size_of_the_header("CUTLIST_WIDTHS");
+    assert_eq!(sys::WIDTHS, widths);
+    assert_eq!(arrays_of_the_library("u64"), BTreeSet::from([widths]));
+
+    let longest = size_of_the_header("CUTLIST_LONGEST_PLAN");
+    assert_eq!(LONGEST, longest);
+    let proved = between(LONGEST_PROVED, "length longest ≡ ", "\n");
+    assert_eq!(number::<usize>(proved), longest);
+
+    let deciding = size_of_the_header("CUTLIST_DECIDING_BYTES");
+    let proved = between(DECIDING_PROVED, "decodeOf (take ", " s)");
+    assert_eq!(number::<usize>(proved), deciding);
+}
