@@ -1,16 +1,17 @@
 /*
  * Lists the minimal cuts of a plan: list [FILE], FILE in raw bytes. Without a FILE it takes the bridge.
- * It prints what the list program prints.
+ * It prints what the list program prints. Its exit status is 0 if the cuts are listed, 1 if the plan is
+ * refused, 2 if there is nothing to read, 3 if what it printed was lost.
  *
  *   cc -std=c99 -I include examples/list.c target/staticlib/libcapi.a -o list
  */
 #include <stdio.h>
-#include <stdlib.h>
-#include <string.h>
 
 #include "cutlist.h"
 
 #define ROWS 2048
+
+enum { LISTED = 0, REFUSED = 1, UNREADABLE = 2, LOST = 3 };
 
 static const uint8_t bridge[] = {
     0x50, 4,
@@ -22,6 +23,28 @@ static const uint8_t bridge[] = {
     0x43, 4, 2, 3,
     0x45,
 };
+
+/*
+ * Reads what decides the plan of a file, which may be longer, and gives its length. Gives -1, and says
+ * why, if the file cannot be read.
+ */
+static int read_plan(const char *name, uint8_t plan[CUTLIST_DECIDING_BYTES])
+{
+    FILE *file = fopen(name, "rb");
+    size_t length;
+    int failed;
+
+    if (file == NULL) {
+        perror(name);
+        return -1;
+    }
+    length = fread(plan, 1, CUTLIST_DECIDING_BYTES, file);
+    failed = ferror(file);
+    if (failed)
+        perror(name);
+    fclose(file);
+    return failed ? -1 : (int)length;
+}
 
 /* Prints the members of a set, rising, or a hyphen for none. */
 static void print_set(uint64_t set)
@@ -71,28 +94,28 @@ static uint8_t list(const uint8_t *plan, size_t length)
 
 int main(int argc, char **argv)
 {
-    uint8_t plan[CUTLIST_DECIDING_BYTES];
-    size_t length = sizeof bridge;
     uint8_t refusal;
 
-    memcpy(plan, bridge, sizeof bridge);
-    if (argc > 1) {
-        FILE *file = fopen(argv[1], "rb");
-        if (file == NULL) {
-            perror(argv[1]);
-            return 2;
-        }
-        length = fread(plan, 1, sizeof plan, file);
-        if (ferror(file)) {
-            perror(argv[1]);
-            fclose(file);
-            return 2;
-        }
-        fclose(file);
+    if (argc > 2) {
+        fprintf(stderr, "usage: list [FILE]\n");
+        return UNREADABLE;
     }
-
-    refusal = list(plan, length);
+    if (argc == 2) {
+        uint8_t plan[CUTLIST_DECIDING_BYTES];
+        int length = read_plan(argv[1], plan);
+        if (length < 0)
+            return UNREADABLE;
+        refusal = list(plan, (size_t)length);
+    } else {
+        refusal = list(bridge, sizeof bridge);
+    }
     if (refusal != CUTLIST_ACCEPTED)
         printf("refused %d\n", refusal);
-    return EXIT_SUCCESS;
+
+    /* A write may fail as late as when the output is closed. */
+    if (ferror(stdout) || fclose(stdout) != 0) {
+        perror("list: output lost");
+        return LOST;
+    }
+    return refusal == CUTLIST_ACCEPTED ? LISTED : REFUSED;
 }

@@ -5,7 +5,7 @@ use crate::answers::{Part, Widths};
 use crate::lent::{Guarded, Rows};
 use crate::record::{Record, SLOTS};
 
-mod capi {
+pub mod capi {
     use super::SLOTS;
 
     unsafe extern "C" {

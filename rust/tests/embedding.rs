@@ -1,10 +1,10 @@
 //! The header and its example: the example is compiled with the C compiler, linked with the static
-//! library, and run.
+//! library, and run; and what the header says of the library as a whole.
 
 use std::env;
 use std::fs;
 use std::path::{Path, PathBuf};
-use std::process::{Command, Output};
+use std::process::{Command, Output, Stdio};
 use std::sync::OnceLock;
 
 use cutlist_tests::{halls, reference};
@@ -61,14 +61,51 @@ fn run(arguments: &[&Path]) -> Output {
         .expect("the example runs")
 }
 
-/// What the example prints for a file of these bytes.
-fn print(name: &str, plan: &[u8]) -> String {
+/// A file of these bytes.
+fn file(name: &str, plan: &[u8]) -> PathBuf {
     let file = folder().join(name);
     fs::write(&file, plan).expect("a file");
-    let output = run(&[&file]);
-    assert!(output.status.success());
-    assert!(output.stderr.is_empty());
-    String::from_utf8(output.stdout).expect("text")
+    file
+}
+
+/// What the example prints for a file of these bytes, and its exit status.
+fn print(name: &str, plan: &[u8]) -> (String, i32) {
+    let output = run(&[&file(name, plan)]);
+    assert!(output.stderr.is_empty(), "{output:?}");
+    let printed = String::from_utf8(output.stdout).expect("text");
+    (printed, output.status.code().expect("an exit status"))
+}
+
+/// The example ends with this status, prints nothing and says why.
+fn assert_fails(output: &Output, status: i32) {
+    assert_eq!(output.status.code(), Some(status), "{output:?}");
+    assert!(output.stdout.is_empty(), "{output:?}");
+    assert!(!output.stderr.is_empty());
+}
+
+#[test]
+fn the_library_has_no_memory_of_its_own_and_calls_only_to_copy_and_fill() {
+    let output = Command::new("nm")
+        .arg("-P")
+        .arg(archive())
+        .output()
+        .expect("the program `nm`");
+    let text = String::from_utf8(output.stdout).expect("text");
+    let mut functions = 0;
+    for line in text.lines() {
+        let mut words = line.split_whitespace();
+        let (Some(name), Some(kind)) = (words.next(), words.next()) else {
+            continue;
+        };
+        match kind {
+            "T" | "t" => functions += 1,
+            // Constants.
+            "R" | "r" => (),
+            "U" => assert!(name == "memcpy" || name == "memset", "{line}"),
+            _ => panic!("{line}"),
+        }
+    }
+    assert!(functions >= 7, "{text}");
 }
 
 #[test]
@@ -99,26 +136,67 @@ fn the_bridge_is_printed_whole() {
 #[test]
 fn a_file_is_listed() {
     let bridge = reference::encode(&halls::bridge(), 265).expect("accepted");
-    assert_eq!(print("bridge", &bridge), BRIDGE_PRINTED);
+    assert_eq!(print("bridge", &bridge), (BRIDGE_PRINTED.to_string(), 0));
+    let no_route = [0x50, 5, 0x53, 4, 1, 0x45];
     assert_eq!(
-        print("no-route", &[0x50, 5, 0x53, 4, 1, 0x45]),
-        "cuts 1\n- | 4\n"
+        print("no-route", &no_route),
+        ("cuts 1\n- | 4\n".to_string(), 0)
     );
+    let longest = reference::encode(&halls::two_points(64), 265).expect("accepted");
+    assert_eq!(longest.len(), reference::LONGEST_PLAN);
+    let (printed, status) = print("longest", &longest);
+    assert!(printed.starts_with("cuts 1\n0 1 2 ") && status == 0);
 }
 
 #[test]
-fn refused_plans_print_their_number() {
-    assert_eq!(print("empty", &[]), "refused 1\n");
-    assert_eq!(print("unfit", &[0x52]), "refused 2\n");
-    assert_eq!(print("one-point", &[0x50, 1]), "refused 4\n");
+fn refused_plans_print_their_number_and_are_no_success() {
+    let refused = |number: u8| (format!("refused {number}\n"), 1);
+    assert_eq!(print("empty", &[]), refused(1));
+    assert_eq!(print("unfit", &[0x52]), refused(2));
+    assert_eq!(print("one-point", &[0x50, 1]), refused(4));
     let hubs = reference::encode(&halls::two_hubs(12), 265).expect("accepted");
-    assert_eq!(print("hubs", &hubs), "refused 12\n");
+    assert_eq!(print("hubs", &hubs), refused(12));
+
+    // Files that are longer than any plan are decided by their first bytes.
+    let longest = reference::encode(&halls::two_points(64), 265).expect("accepted");
+    let mut longer = longest.clone();
+    longer.push(0x45);
+    assert_eq!(print("longer", &longer), refused(3));
+    longer.resize(100_000, 0);
+    assert_eq!(print("much-longer", &longer), refused(3));
+    let mut cables = longest;
+    cables.pop();
+    cables.extend([0x43, 64, 0, 1]);
+    assert_eq!(cables.len(), reference::DECIDING);
+    assert_eq!(print("cable-64", &cables), refused(7));
+    cables.resize(100_000, 0x45);
+    assert_eq!(print("cable-64-longer", &cables), refused(7));
 }
 
 #[test]
-fn a_missing_file_is_reported() {
-    let output = run(&[Path::new("/no/such/plan")]);
-    assert_eq!(output.status.code(), Some(2));
-    assert!(output.stdout.is_empty());
-    assert!(!output.stderr.is_empty());
+fn what_cannot_be_read_is_no_plan() {
+    assert_fails(&run(&[Path::new("/no/such/plan")]), 2);
+    assert_fails(&run(&[&folder()]), 2);
+    let empty = Path::new("/dev/null");
+    assert_fails(&run(&[empty, empty]), 2);
+}
+
+#[test]
+fn output_that_is_lost_is_no_success() {
+    let full = || Stdio::from(fs::File::create("/dev/full").expect("a device that is full"));
+    let hubs = reference::encode(&halls::two_hubs(11), 265).expect("accepted");
+    for plan in [file("many", &hubs), file("unfit-lost", &[0x52])] {
+        let output = Command::new(example())
+            .arg(&plan)
+            .stdout(full())
+            .output()
+            .expect("the example runs");
+        assert_fails(&output, 3);
+        let output = Command::new("sh")
+            .args(["-c", r#"exec "$0" "$1" >&-"#])
+            .args([example(), &plan])
+            .output()
+            .expect("the shell");
+        assert_fails(&output, 3);
+    }
 }

@@ -1,0 +1,259 @@
+//! The stack that the calls need, held against what the header says. Each call is made on a stack of
+//! its own that was painted before: how far down the paint is gone is how much the call took.
+//!
+//! The list takes most, by the calls that grow the near side: each decides one point, so at most 31
+//! of them, all points but the room, stand above each other. A line of 32 points has as many. The
+//! sort stands on less: it splits the rows at cables on which cuts differ, and of these at most 30
+//! are independent, the points but server and room.
+
+use std::arch::asm;
+use std::fs;
+use std::hint::black_box;
+use std::path::{Path, PathBuf};
+use std::process::{Command, Stdio};
+
+use cutlist_tests::halls;
+use cutlist_tests::plans;
+use cutlist_tests::record::Record;
+use cutlist_tests::reference;
+use cutlist_tests::rng::Rng;
+use cutlist_tests::sys::capi;
+
+/// Stacks are painted with this.
+const PAINT: u64 = 0xA5C3_96E1_5A3C_691E;
+
+/// The most rows that are lent.
+const ROWS: usize = 1 << 17;
+
+/// The bytes of stack that a call takes, from the step onto its stack on.
+fn stack_of<F: FnMut()>(mut call: F) -> usize {
+    extern "C" fn enter<F: FnMut()>(call: *mut F) {
+        // SAFETY: it is the pointer that is handed over below.
+        unsafe { (*call)() }
+    }
+    let mut memory = vec![PAINT; 1 << 13];
+    let top = memory.as_mut_ptr_range().end as usize & !15;
+
+    // SAFETY: the stack grows down from an aligned end of memory that is lent to nothing else and is
+    // eight times as large as the calls need. The call leaves r12, which holds the former stack, as
+    // it was, and the pointer that it takes is valid.
+    unsafe {
+        asm!(
+            "xchg rsp, r12",
+            "call {enter}",
+            "mov rsp, r12",
+            enter = in(reg) enter::<F> as extern "C" fn(*mut F),
+            inout("r12") top => _,
+            in("rdi") &mut call,
+            clobber_abi("C"),
+        );
+    }
+
+    let painted = memory.iter().take_while(|&&word| word == PAINT).count();
+    assert!(painted > 0, "a call took all of its stack");
+    size_of_val(&memory[painted..])
+}
+
+/// Rows lent to the list.
+struct Rows {
+    cuts: Vec<u64>,
+    sides: Vec<u32>,
+}
+
+impl Rows {
+    fn new() -> Rows {
+        Rows {
+            cuts: vec![0; ROWS],
+            sides: vec![0; ROWS],
+        }
+    }
+}
+
+/// The stack of the list call with so many rows lent, and its refusal number.
+fn list(r: &Record, rows: &mut Rows, lent: usize) -> (usize, u8) {
+    assert!(lent <= ROWS);
+    let (mut refusal, mut count) = (0, 0);
+    // SAFETY: each pointer is valid for its type and length, and no two overlap.
+    let stack = stack_of(|| unsafe {
+        refusal = capi::cutlist_list(
+            r.nodes,
+            r.source,
+            r.sink,
+            r.present,
+            &r.first,
+            &r.second,
+            rows.cuts.as_mut_ptr(),
+            lent,
+            rows.sides.as_mut_ptr(),
+            lent,
+            &mut count,
+        );
+    });
+    (stack, refusal)
+}
+
+/// The most stack that one of the other calls on a record takes, and the reader on its bytes.
+fn others(r: &Record) -> usize {
+    let mut plan = [0; reference::LONGEST_PLAN];
+    let (mut count, mut verdict, mut nodes, mut edges) = (0, 0, 0, 0);
+    let mut read = Record::default();
+    // SAFETY: each pointer is valid for its type and length, and no two overlap.
+    let stacks = unsafe {
+        [
+            stack_of(|| {
+                capi::cutlist_fault(r.nodes, r.source, r.sink, r.present, &r.first, &r.second);
+            }),
+            stack_of(|| {
+                capi::cutlist_relevant(
+                    r.nodes, r.source, r.sink, r.present, &r.first, &r.second, &mut nodes,
+                    &mut edges,
+                );
+            }),
+            stack_of(|| {
+                capi::cutlist_classify(
+                    r.nodes,
+                    r.source,
+                    r.sink,
+                    r.present,
+                    &r.first,
+                    &r.second,
+                    r.present,
+                    &mut verdict,
+                );
+            }),
+            stack_of(|| {
+                capi::cutlist_encode(
+                    r.nodes,
+                    r.source,
+                    r.sink,
+                    r.present,
+                    &r.first,
+                    &r.second,
+                    plan.as_mut_ptr(),
+                    plan.len(),
+                    &mut count,
+                );
+            }),
+            stack_of(|| {
+                capi::cutlist_decode(
+                    plan.as_ptr(),
+                    count,
+                    &mut read.nodes,
+                    &mut read.source,
+                    &mut read.sink,
+                    &mut read.present,
+                    &mut read.first,
+                    &mut read.second,
+                );
+            }),
+        ]
+    };
+    stacks.into_iter().max().expect("five calls")
+}
+
+fn widths(cuts: &[u64]) -> usize {
+    let mut table = [0; 65];
+    // SAFETY: each pointer is valid for its type and length, and the two do not overlap.
+    stack_of(|| unsafe { capi::cutlist_widths(cuts.as_ptr(), cuts.len(), &mut table) })
+}
+
+/// Halls of every kind: deep ones, wide ones, one without a route, one with every cable.
+fn patterns() -> Vec<Record> {
+    vec![
+        halls::bridge(),
+        halls::hanging_triangle(),
+        halls::two_points(0),
+        halls::two_points(64),
+        halls::line(32, 1),
+        halls::line(32, 2),
+        halls::turned(halls::line(32, 2)),
+        halls::fan(30),
+        halls::turned(halls::fan(30)),
+        halls::string_of_fours(8),
+        halls::circle(32, &[1, 2]),
+        halls::grid(2, 16),
+        halls::grid(4, 8),
+        halls::complete(11),
+        halls::two_hubs(16),
+        halls::two_hubs(30),
+    ]
+}
+
+fn root() -> PathBuf {
+    Path::new(env!("CARGO_MANIFEST_DIR")).join("..")
+}
+
+/// The number that stands in the header right behind these words.
+fn said_by_the_header(words: &str) -> usize {
+    let header = fs::read_to_string(root().join("include/cutlist.h")).expect("the header");
+    let (_, rest) = header.split_once(words).expect("these words");
+    let digits = rest.split(|c: char| !c.is_ascii_digit()).next();
+    digits.and_then(|n| n.parse().ok()).expect("a number")
+}
+
+#[test]
+fn the_paint_shows_what_a_call_takes() {
+    assert!(stack_of(|| ()) < 64);
+    let taken = stack_of(|| {
+        black_box([1u8; 5000]);
+    });
+    assert!((5000..6000).contains(&taken), "{taken}");
+}
+
+#[test]
+fn no_call_takes_more_than_the_header_says() {
+    let most = said_by_the_header("#define CUTLIST_STACK_BYTES ");
+    let mut rows = Rows::new();
+    let mut rng = Rng::new(71);
+    let mut deepest = 0;
+    let mut refusals = [0; 16];
+    let random = (0..400).map(|round| {
+        let mut record = plans::large(&mut rng);
+        if round % 8 == 0 {
+            plans::corrupt(&mut rng, &mut record);
+        }
+        record
+    });
+    for hall in patterns().into_iter().chain(random) {
+        for lent in [0, 20, 2048, ROWS] {
+            let (stack, refusal) = list(&hall, &mut rows, lent);
+            deepest = deepest.max(stack);
+            refusals[usize::from(refusal)] += 1;
+        }
+        let stack = others(&hall);
+        assert!(stack < 1024, "{stack} bytes: {hall:?}");
+    }
+    assert!(refusals[0] > 500 && refusals[12] > 300, "{refusals:?}");
+    assert!(deepest <= most, "{deepest} bytes");
+    // The line of 32 points goes as deep as any.
+    assert_eq!(list(&halls::line(32, 1), &mut rows, ROWS), (deepest, 0));
+
+    for cuts in [&rows.cuts[..0], &rows.cuts] {
+        let stack = widths(cuts);
+        assert!(stack < 1024, "{stack} bytes");
+    }
+}
+
+#[test]
+fn the_list_program_needs_no_more_than_the_header_says() {
+    let kib = said_by_the_header("prints on its stack, and needs ");
+    let program = root().join("target/bin/list");
+    for (hall, lines) in [(halls::line(32, 2), 32), (halls::two_hubs(11), 2049)] {
+        let plan = Path::new(env!("CARGO_TARGET_TMPDIR")).join(format!("stack-{lines}"));
+        let bytes = reference::encode(&hall, reference::LONGEST_PLAN).expect("accepted");
+        fs::write(&plan, bytes).expect("a file");
+        let output = Command::new("sh")
+            .args(["-c", r#"ulimit -s "$1"; exec "$0""#])
+            .arg(&program)
+            .arg(kib.to_string())
+            .env_clear()
+            .stdin(Stdio::from(fs::File::open(&plan).expect("the file")))
+            .output()
+            .expect("the shell");
+        assert!(output.status.success(), "{output:?}");
+        assert_eq!(
+            output.stdout.split_inclusive(|&b| b == b'\n').count(),
+            lines
+        );
+    }
+}
