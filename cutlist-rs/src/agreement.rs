@@ -48,10 +48,10 @@ fn number<N: FromStr>(digits: &str) -> N {
     digits.parse().unwrap_or_else(|_| panic!("{digits:?}"))
 }
 
-/// The constants of refusal.rt: `pub const NAME: u8 = N; // words`.
+/// The constants of refusal.rt, which holds nothing else: `pub const NAME: u8 = N; // words`.
 fn refusals_of_the_library() -> Words {
-    let lines = REFUSALS.lines().filter(|line| line.starts_with("pub "));
-    table(lines.map(|line| {
+    let constant = |line: &&str| !line.is_empty() && !line.starts_with("//");
+    table(REFUSALS.lines().filter(constant).map(|line| {
         let (constant, words) = parted(line, "// ");
         let value = between(constant, ": u8 = ", ";");
         (number(value), words.to_string())
