@@ -1,5 +1,6 @@
-//! The list call beside the same method in ordinary Rust, both measured in one run: medians over
-//! repeated calls, the rows cleared before each.
+//! The list call beside the same method in ordinary Rust, and the library's useful part alone, which
+//! each of its lists begins with. All are measured in one run: medians over repeated calls, the rows
+//! cleared before each.
 //!
 //! cargo bench --offline
 
@@ -48,17 +49,29 @@ fn plain(record: &Record, lent: &mut Lent) -> usize {
     ordinary::list(record, &mut lent.cuts, &mut lent.sides).expect("rows that suffice")
 }
 
-/// Both medians over so many calls of each, in turn.
-fn medians(record: &Record, rows: usize, calls: usize) -> (Duration, Duration) {
+/// Medians over so many calls of each, in turn.
+struct Medians {
+    library: Duration,
+    useful: Duration,
+    plain: Duration,
+}
+
+fn medians(record: &Record, rows: usize, calls: usize) -> Medians {
     let mut lent = Lent::rows(rows);
-    let mut times = (Vec::new(), Vec::new());
+    let mut times = [const { Vec::new() }; 3];
     for _ in 0..calls {
         lent.clear();
-        times.0.push(timed(|| library(record, &mut lent)).1);
+        times[0].push(timed(|| library(record, &mut lent)).1);
+        times[1].push(timed(|| sys::relevant_bare(record)).1);
         lent.clear();
-        times.1.push(timed(|| plain(record, &mut lent)).1);
+        times[2].push(timed(|| plain(record, &mut lent)).1);
     }
-    (median(times.0), median(times.1))
+    let [library, useful, plain] = times.map(median);
+    Medians {
+        library,
+        useful,
+        plain,
+    }
 }
 
 fn median(mut times: Vec<Duration>) -> Duration {
@@ -129,15 +142,16 @@ fn measure(name: &str, record: &Record) {
     for rows in lent {
         let calls = (BUDGET.as_nanos() / (2 * slower.as_nanos()).max(1)) as usize;
         let calls = calls.clamp(CALLS.0, CALLS.1) | 1;
-        let (library, plain) = medians(record, rows, calls);
+        let medians = medians(record, rows, calls);
         let each = |time: Duration| time.as_nanos() as f64 / count as f64;
         println!(
-            "{name:<28} {:>6} {:>6} {count:>8} {rows:>8} {calls:>5} {:>11.1} {:>11.1} {:>6.2}",
+            "{name:<28} {:>6} {:>6} {count:>8} {rows:>8} {calls:>5} {:>9.1} {:>9.1} {:>9.1} {:>6.2}",
             record.nodes,
             record.present.count_ones(),
-            each(library),
-            each(plain),
-            each(library) / each(plain),
+            each(medians.library),
+            each(medians.useful),
+            each(medians.plain),
+            each(medians.library) / each(medians.plain),
         );
     }
 }
@@ -156,10 +170,19 @@ fn dense(nodes: u8, seed: u64) -> Record {
 
 fn main() {
     println!(
-        "{:<28} {:>6} {:>6} {:>8} {:>8} {:>5} {:>11} {:>11} {:>6}",
-        "hall", "points", "cables", "rows", "lent", "calls", "library", "ordinary", "ratio"
+        "{:<28} {:>6} {:>6} {:>8} {:>8} {:>5} {:>9} {:>9} {:>9} {:>6}",
+        "hall",
+        "points",
+        "cables",
+        "rows",
+        "lent",
+        "calls",
+        "library",
+        "useful",
+        "ordinary",
+        "ratio"
     );
-    println!("{:>81} {:>11}", "ns/row", "ns/row");
+    println!("{:>76} {:>9} {:>9}", "ns/row", "ns/row", "ns/row");
     measure("bridge", &halls::bridge());
     measure("line of 32, double", &halls::line(32, 2));
     measure("fan of 30", &halls::fan(30));
@@ -183,11 +206,15 @@ fn main() {
     measure("two hubs with 20 between", &halls::two_hubs(20));
 
     let eleven = halls::complete(11);
-    let (library, plain) = medians(&eleven, 512, 101);
+    let Medians {
+        library,
+        useful,
+        plain,
+    } = medians(&eleven, 512, 101);
     println!();
     println!(
         "Eleven points, every pair joined, 512 rows, median of 101 calls of each: library {library:?}, \
-         ordinary {plain:?}, ratio {:.2}",
+         of that the useful part {useful:?}, ordinary {plain:?}, ratio {:.2}",
         library.as_nanos() as f64 / plain.as_nanos() as f64
     );
 }

@@ -225,6 +225,27 @@ pub fn relevant(record: &Record) -> (u8, Part) {
     (refusal, part)
 }
 
+/// The same with nothing around the call: for measuring.
+pub fn relevant_bare(record: &Record) -> (u8, Part) {
+    let mut part = Part::default();
+
+    // SAFETY: each pointer is valid for its type, and no two overlap.
+    let refusal = unsafe {
+        capi::cutlist_relevant(
+            record.nodes,
+            record.source,
+            record.sink,
+            record.present,
+            &record.first,
+            &record.second,
+            &mut part.nodes,
+            &mut part.edges,
+        )
+    };
+
+    (refusal, part)
+}
+
 /// Judges a set of cables: the refusal number and the verdict's number, 0 for none.
 pub fn classify(record: &Record, set: u64) -> (u8, u8) {
     let mut ends = Ends::of(record);
