@@ -154,7 +154,7 @@ impl Plan {
         answer(number, Plan(record))
     }
 
-    /// Writes the plan, cables rising.
+    /// Writes the plan, cables rising, into memory for the longest plan, 262 bytes.
     pub fn encode(&self) -> Result<Vec<u8>, Refusal> {
         let mut plan = vec![0; LONGEST];
         let count = self.encode_into(&mut plan)?;

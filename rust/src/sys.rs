@@ -5,6 +5,7 @@ use crate::answers::{Part, Widths};
 use crate::lent::{Guarded, Rows};
 use crate::record::{Record, SLOTS};
 
+/// The functions as include/cutlist.h declares them, with nothing around.
 pub mod capi {
     use super::SLOTS;
 
