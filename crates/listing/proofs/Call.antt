@@ -9,7 +9,7 @@ use lib.ListN.{length, take, length-map}
 use lib.Seq.{sets}
 use Rattle.network.specs.declared.Network.{Network}
 use Rattle.network.specs.Record.{unlessRefused, faultOf, Stored}
-use Rattle.listing.specs.Sorted.{Sorted, SortedIfPaired}
+use Rattle.listing.specs.Sorted.{Sorted}
 use Rattle.graph.proofs.Sound.{Sound, accepted-sound}
 use Rattle.cuts.specs.Enumeration.{Row, cutsOf, sidesOf, rows}
 use Rattle.listing.specs.declared.Listed.{Listed}
@@ -86,7 +86,7 @@ module _ (N : Network) (cuts sides : List ℕ) where
     -- Otherwise the rows of the enumeration are stored from the first row on, and the first n are sorted in place.
     pub answered-complete : (n : ℕ) → n ≡ length (rows N) → n ≤ length cuts
         → (filled filled′ sorted sorted′ : List ℕ) → filled ≡ sets cuts 0 (cutsOf (rows N)) → filled′ ≡ sets sides 0 (sidesOf (rows N))
-        → SortedIfPaired (take (n - 0) filled) (take (n - 0) filled′) sorted sorted′
+        → Sorted (take (n - 0) filled) (take (n - 0) filled′) sorted sorted′
         → Answered N cuts sides (record { refusal = 0; count = n }) (putMid 0 (n - 0) filled sorted) (putMid 0 (n - 0) filled′ sorted′)
     answered-complete n count fits filled filled′ sorted sorted′ p q s =
         let l = rows N in
@@ -94,9 +94,8 @@ module _ (N : Network) (cuts sides : List ℕ) where
         let count-sides : n ≡ length (sidesOf l) = count-cuts ∙ rows-paired l in
         let fits-cuts : length (cutsOf l) ≤ length cuts = rw (← count-cuts) fits in
         let fits-sides : length (sidesOf l) ≤ length sides = rw (← count-sides, ← paired) fits in
-        let all : SortedIfPaired (cutsOf l) (sidesOf l) sorted sorted′ =
+        let done : Sorted (cutsOf l) (sidesOf l) sorted sorted′ =
         rw (p, q, onto-first (cutsOf l) cuts fits-cuts n count-cuts, onto-first (sidesOf l) sides fits-sides n count-sides) at s in
-        let done : Sorted (cutsOf l) (sidesOf l) sorted sorted′ = all .paired (rows-paired l) in
         let whole = completed N cuts sides (refusal-none N cuts sides .1 (ok, paired, rw (mincuts-count N sound, ← count) fits)) in
         rw (
           p,

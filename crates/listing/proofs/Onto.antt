@@ -6,7 +6,7 @@ use Prim.Native.Nat.{ℕ, _-_, _≤_}
 use native.Mathlib.Nat.{zero-add, sub-zero}
 use borrow.Rule.Slice.PartMut.{putMid}
 use lib.ListN.{length, take, drop}
-use lib.Seq.{sets, sets-eq, take-at, drop-at}
+use lib.Seq.{sets, sets-eq, take-at, drop-at, length-take-le}
 use Rattle.listing.specs.List.{onto}
 
 module _ (l lent : List ℕ) (fits : length l ≤ length lent) where
@@ -22,3 +22,7 @@ module _ (l lent : List ℕ) (fits : length l ≤ length lent) where
     -- If they come back as another list of the same length, that one is written onto the rows.
     pub onto-back : (k : List ℕ) → length k ≡ length l → putMid 0 (n - 0) (sets lent 0 l) k ≡ onto k lent
     onto-back k e = rw (sub-zero n, sets-onto, drop-at l (drop (length l) lent) n (sym count), e)
+
+-- Of two areas that reach so far, equally many rows are lent on.
+pub lent-alike : (n : ℕ) (a b : List ℕ) → n ≤ length a → n ≤ length b → length (take (n - 0) a) ≡ length (take (n - 0) b)
+lent-alike n a b h k = rw (sub-zero n) (length-take-le n a h ∙ sym (length-take-le n b k))

@@ -8,6 +8,7 @@ use borrow.Author.Tests.{ltb-true, ltb-false}
 use lib.ListN.{length}
 use Rattle.network.specs.Record.{Stored}
 use Rattle.cuts.specs.Enumeration.{rows}
+use Rattle.listing.proofs.Onto.{lent-alike}
 use Rattle.listing.proofs.Meaning.{answered-means}
 use Rattle.listing.proofs.Call.{answered-faulty, answered-unpaired, answered-outnumbered, answered-complete}
 use Rattle.reach.proofs.Answers.{part-refusal, part-nodes, part-edges}
@@ -96,7 +97,9 @@ part-sort-rows-end-2 : tie.Need-part-sort-rows-end-2
 part-sort-rows-end-2 c = ends-2 (c .before .before .before .before .before)
 
 sort-rows-requires : tie.Need-sort-rows-requires
-sort-rows-requires c κs = search needs
+sort-rows-requires c κs =
+    let fill = c .before .before .before .before .before .before in
+    lent-alike _ _ _ (ends fill) (ends-2 fill)
 
 same-length : tie.Need-same-length
 same-length c = search needs
