@@ -1,0 +1,25 @@
+//! Standard output, where answers go, and standard error, where messages go.
+
+use std::ffi::OsStr;
+use std::fmt;
+use std::fs::File;
+use std::io::{self, Write};
+use std::os::fd::AsFd;
+
+/// Writes an answer whole. Not by the handle of `std`, which takes a write to a stream that is not
+/// open for writing as done.
+pub fn print(answer: &[u8]) -> io::Result<()> {
+    let mut stdout = File::from(io::stdout().as_fd().try_clone_to_owned()?);
+    stdout.write_all(answer)?;
+    stdout.flush()
+}
+
+/// Writes a message. One that standard error does not take changes nothing.
+pub fn say(message: impl fmt::Display) {
+    let _ = writeln!(io::stderr(), "cutlist: {message}");
+}
+
+/// A file's name on one line.
+pub fn shown(name: &OsStr) -> String {
+    name.to_string_lossy().replace(char::is_control, "?")
+}

@@ -1,0 +1,23 @@
+//! How the command ends.
+
+use std::process::ExitCode;
+
+/// The exit status. Of several the largest counts.
+#[derive(Clone, Copy, Debug, PartialEq, Eq, PartialOrd, Ord)]
+#[repr(u8)]
+pub enum Status {
+    /// All that was asked for is printed.
+    Done = 0,
+    /// A plan is refused.
+    Refused = 1,
+    /// A wrong use, or an input that cannot be read or is malformed.
+    Unread = 2,
+    /// A list is lost on its way from the list program to whoever reads standard output.
+    Lost = 3,
+}
+
+impl From<Status> for ExitCode {
+    fn from(status: Status) -> ExitCode {
+        ExitCode::from(status as u8)
+    }
+}
