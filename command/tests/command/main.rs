@@ -1,0 +1,10 @@
+//! The command itself, `./cutlist`, run as a program: what it prints, what it says and how it ends.
+
+mod building;
+mod files;
+mod halls;
+mod program;
+mod running;
+mod streams;
+mod text;
+mod usage;

@@ -1,0 +1,45 @@
+//! Help, options, and a wrong use.
+
+use std::process::Command;
+
+use super::running::*;
+
+fn words(words: &[&str]) -> Ended {
+    run(Command::new(script()).args(words))
+}
+
+#[test]
+fn help_is_printed_wherever_it_is_asked_for() {
+    let usage = include_str!("../../usage.txt");
+    for asked in [
+        &["-h"][..],
+        &["--help"],
+        &["missing", "-h"],
+        &["-", "--help"],
+        &["-h", "-x"],
+    ] {
+        words(asked).listed(usage);
+    }
+}
+
+#[test]
+fn an_unknown_option_is_a_wrong_use() {
+    for option in ["-x", "--foo", "-hx", "--help=all", "-1", "---"] {
+        words(&[option]).failed(2, &["unknown option ", option, "Usage: cutlist [FILE ..]"]);
+        words(&["missing", option]).failed(2, &["unknown option ", option]);
+    }
+}
+
+#[test]
+fn after_two_hyphens_every_word_is_a_file() {
+    words(&["--", "-x"]).failed(2, &["-x: No such file"]);
+    words(&["--", "--"]).failed(2, &["--: No such file"]);
+    words(&["--", "--help"]).failed(2, &["--help: No such file"]);
+    let folder = Folder::new();
+    folder.file("-h", BRIDGE);
+    run(Command::new(script())
+        .args(["--", "-h"])
+        .current_dir(&folder.0))
+    .listed(BRIDGE_LIST);
+    run(Command::new(script()).arg("./-h").current_dir(&folder.0)).listed(BRIDGE_LIST);
+}
