@@ -28,6 +28,7 @@ fn a_closed_output_is_status_3() {
     bash("cutlist >&-", &[]).failed(3, &[LOST, "Bad file descriptor"]);
     bash("cutlist \"$1\" >&-", &[&refused]).failed(3, &[LOST]);
     bash("cutlist >&- <&-", &[]).failed(3, &[LOST]);
+    bash("cutlist 1</dev/null", &[]).failed(3, &[LOST, "Bad file descriptor"]);
     bash("cutlist missing -h >&-", &[]).failed(3, &[LOST]);
     assert_eq!(bash("cutlist -h >&-", &[]).status, Some(3));
     assert_eq!(bash("cutlist >&- 2>&-", &[]).status, Some(3));
@@ -72,6 +73,7 @@ fn a_closed_input_is_no_empty_plan() {
     bash("cutlist - <&-", &[]).failed(2, &["-: "]);
     bash("cutlist /dev/stdin <&-", &[]).failed(2, &["/dev/stdin: "]);
     bash("cutlist - <&- >&-", &[]).failed(2, &["-: "]);
+    bash("cutlist - 0>/dev/null", &[]).failed(2, &["-: Bad file descriptor"]);
     // It does not matter where it is not read.
     bash("cutlist <&-", &[]).listed(BRIDGE_LIST);
 }
