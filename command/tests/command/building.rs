@@ -335,6 +335,25 @@ fn a_failure_after_a_good_build_lists_nothing() {
 }
 
 #[test]
+fn what_a_failed_build_left_is_not_taken_for_built() {
+    let copy = Copy::new();
+    copy.builds(&EVERYTHING);
+    fs::remove_file(copy.at("target/bin/list")).expect("the list program");
+    copy.tool("rt", &format!("{RT}\nexit 1"));
+    copy.run().failed(3, &["rt failed"]);
+    copy.calls();
+    copy.tool("rt", RT);
+    copy.builds(&EVERYTHING);
+
+    fs::remove_dir_all(copy.at("target/command")).expect("the command");
+    copy.tool("cargo", &format!("{CARGO}\nexit 1"));
+    copy.run().failed(3, &["cargo failed"]);
+    copy.calls();
+    copy.tool("cargo", CARGO);
+    copy.builds(&["cargo build"]);
+}
+
+#[test]
 fn it_finds_its_folder_through_links() {
     let folder = Folder::new();
     let link = folder.0.join("link");
