@@ -247,17 +247,21 @@ fn help_needs_no_build() {
 }
 
 #[test]
-fn a_missing_tool_is_named() {
+fn a_missing_tool_is_named_before_anything_is_built() {
     let copy = Copy::new().without("rt");
     copy.run().failed(3, &["cutlist: rt is missing", "Rattle"]);
     copy.tool("rt", RT);
     let copy = copy.without("cargo");
     copy.run().failed(3, &["cutlist: cargo is missing", "Rust"]);
+    assert_eq!(copy.calls(), [] as [&str; 0]);
     copy.tool("cargo", CARGO);
-    copy.calls();
+    copy.builds(&EVERYTHING);
+    // For a change in Rust alone cargo will do.
+    let copy = copy.without("rt");
+    change_in_secret(&copy.at("command/src/main.rs"));
     copy.builds(&["cargo build"]);
     // Nothing is needed where everything is built.
-    let copy = copy.without("rt").without("cargo").without("flock");
+    let copy = copy.without("cargo").without("flock");
     copy.run().listed(BRIDGE_LIST);
 }
 
