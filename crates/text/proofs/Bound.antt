@@ -12,7 +12,7 @@ use Rattle.bitset.specs.Members.{has, membersFrom, members}
 use Rattle.text.specs.Ascii.{bytes}
 use Rattle.text.specs.Text.{digits, decimal, spaced, numbers, lineOf, wordLine, rowLines, listText, maxLine, maxRows, maxText}
 use Rattle.text.proofs.Decimal.{length-decimal}
-use Rattle.text.proofs.Numbers.{spaced-nil, length-spaced, length-numbers, numbers-nil}
+use Rattle.text.proofs.NumberTexts.{spaced-nil, length-spaced, length-numbers, numbers-nil}
 use Rattle.text.proofs.Lines.{length-line, length-word}
 
 -- The bytes of the n numbers from k on, each after a space.

@@ -3,7 +3,7 @@ pub mod Bytes
 pub mod Decimal
 pub mod Members
 pub mod Written
-pub mod Numbers
+pub mod NumberTexts
 pub mod Lines
 pub mod Rows
 pub mod Bound

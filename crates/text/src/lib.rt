@@ -42,20 +42,39 @@ fn write_number(out: &mut [u8], at: usize, n: usize) -> usize
     }
 }
 
-// Writes each member after a space, rising, from the offset `at` on.
-fn write_spaced(out: &mut [u8], at: usize, set: EdgeSet) -> usize
+// Numbers to be written: k is one of them if the bit of weight 2^k is set. A kind of its own, so that to be written no set of edges
+// becomes one of nodes, nor the other way round.
+struct Numbers(u64);
+
+// Writes each number after a space, rising, from the offset `at` on.
+fn write_spaced(out: &mut [u8], at: usize, set: Numbers) -> usize
     requires { ⌜ at + length (spaced (members 64 (set .0))) ≤ length (now out) ⌝ }
     ensures { λ r. ⌜ Wrote (now (out .entry)) at (spaced (members 64 (set .0))) (now (out .exit)) r ⌝ }
 {
     let mut next = at;
-    let mut rest = set;
-    while !rest.is_empty() {
-        let lowest = rest.lowest();
-        rest = rest.without_lowest();
+    let mut rest = set.0;
+    while rest != 0 {
+        let lowest = u64::trailing_zeros(rest);
+        rest = rest & (rest - 1);
         out[next] = b' ';
         next = write_number(out, next + 1, lowest as usize);
     }
     next
+}
+
+// Writes the numbers, rising, from the offset `at` on; a hyphen if there are none.
+fn write_numbers(out: &mut [u8], at: usize, set: Numbers) -> usize
+    requires { ⌜ at + length (numbers (members 64 (set .0))) ≤ length (now out) ⌝ }
+    ensures { λ r. ⌜ Wrote (now (out .entry)) at (numbers (members 64 (set .0))) (now (out .exit)) r ⌝ }
+{
+    let all = set.0;
+    if all == 0 {
+        out[at] = b'-';
+        return at + 1;
+    }
+    let rest = all & (all - 1);
+    let next = write_number(out, at, u64::trailing_zeros(all) as usize);
+    write_spaced(out, next, Numbers(rest))
 }
 
 // Writes the members, rising, from the offset `at` on; a hyphen if there are none.
@@ -63,20 +82,7 @@ fn write_edges(out: &mut [u8], at: usize, set: EdgeSet) -> usize
     requires { ⌜ at + length (numbers (members 64 (set .0))) ≤ length (now out) ⌝ }
     ensures { λ r. ⌜ Wrote (now (out .entry)) at (numbers (members 64 (set .0))) (now (out .exit)) r ⌝ }
 {
-    if set.is_empty() {
-        out[at] = b'-';
-        return at + 1;
-    }
-    let rest = set.without_lowest();
-    let next = write_number(out, at, set.lowest() as usize);
-    write_spaced(out, next, rest)
-}
-
-// The edges with the numbers of these nodes: both kinds of number are written alike.
-fn edges_numbered_as(nodes: NodeSet) -> EdgeSet
-    ensures { λ r. ⌜ r .0 ≡ nodes .0 ⌝ }
-{
-    EdgeSet(nodes.0 as u64)
+    write_numbers(out, at, Numbers(set.0))
 }
 
 // Writes the members, rising, from the offset `at` on; a hyphen if there are none.
@@ -84,7 +90,7 @@ fn write_nodes(out: &mut [u8], at: usize, set: NodeSet) -> usize
     requires { ⌜ at + length (numbers (members 32 (set .0))) ≤ length (now out) ⌝ }
     ensures { λ r. ⌜ Wrote (now (out .entry)) at (numbers (members 32 (set .0))) (now (out .exit)) r ⌝ }
 {
-    write_edges(out, at, edges_numbered_as(set))
+    write_numbers(out, at, Numbers(set.0 as u64))
 }
 
 // Writes the line of a cut and its near side from the offset `at` on.

@@ -5,7 +5,7 @@ use native.Mathlib.Omega.{arith}
 use lib.ListN.{length}
 use borrow.Author.Needs.{needs}
 use Rattle.text.proofs.Written.{wrote-below}
-use Rattle.text.proofs.Numbers.{wrote-small, wrote-large, room-small, room-large}
+use Rattle.text.proofs.NumberTexts.{wrote-small, wrote-large, room-small, room-large}
 use Prim.Native.Nat.{ℕ, _<_}
 use borrow.Fn.Kinds.{In}
 use borrow.Fn.PlainCycle.{Measures, is, falls, and}
