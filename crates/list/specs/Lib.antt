@@ -1,2 +1,2 @@
 -- The definitions that the contracts of `list` cite.
-pub mod Report
+pub mod Reading

@@ -1,35 +1,69 @@
 // The list program: reads a plan from standard input and prints its minimal cuts, or why it is refused.
 //
-// It reads up to 265 bytes, enough to decide any plan, and lends 2,048 rows. All that it prints is made in one page of memory by `report`,
-// whose contract says what that is (specs/Report.antt), and written out at once.
+// It reads up to 265 bytes, enough to decide any plan. All that it prints is made in one page of memory by `report`, whose contract says
+// what that is, and written out at once. No list is lost without a word: standard error says if a read failed, and then nothing is
+// printed, or if standard output did not take all of the page.
+use libc::STDERR_FILENO;
 use libc::STDIN_FILENO;
 use libc::STDOUT_FILENO;
-use text::MAX_ROWS;
+use report::DECIDING;
 use text::MAX_TEXT;
-ghost use Rattle.text.specs.Written.{Printed};
-ghost use Rattle.list.specs.Report.{reportOf};
+ghost use mathlib.Core.Path.{_≡_};
+ghost use lib.ListN.{length};
+ghost use Rattle.list.specs.Reading.{inputOf, Within};
 
-// Makes what is printed for a plan at the start of the page, and gives its length.
-fn report(plan: &[u8], page: &mut [u8; MAX_TEXT]) -> usize
-    ensures { λ r. ⌜ Printed (reportOf (now (plan .entry))) (now (page .entry)) (now (page .exit)) r ⌝ }
+// What reading came to: so many bytes, or a read failed.
+enum Input {
+    Read(usize),
+    Failed,
+}
+
+// What a read came to that answered `got`: it failed if that is negative.
+fn input_of(got: isize, room: &[u8]) -> Input
+    ensures { λ r. ⌜ r ≡ inputOf got (length (now (room .entry))) ⌝ }
 {
-    let decoded = reader::decode(plan);
-    if decoded.refusal != 0 {
-        return text::put_refusal(page, decoded.refusal);
+    if got < 0 {
+        return Input::Failed;
     }
-    let mut cuts = [0u64; MAX_ROWS];
-    let mut sides = [0u32; MAX_ROWS];
-    let listed = listing::list(decoded.network, &mut cuts, &mut sides);
-    if listed.refusal != 0 {
-        return text::put_refusal(page, listed.refusal);
+    Input::Read(io::count(got, room))
+}
+
+// One read of standard input into the lent bytes. No bytes are its end.
+fn read_once(room: &mut [u8]) -> Input
+    ensures { λ r. ⌜ Within (length (now (room .exit))) r ⌝ }
+{
+    let got = libc::read(STDIN_FILENO, room);
+    input_of(got, room)
+}
+
+// Reads standard input into the plan, until it is full or the input ends.
+fn read_plan(plan: &mut [u8]) -> Input
+    ensures { λ r. ⌜ Within (length (now (plan .exit))) r ⌝ }
+{
+    let mut read = 0;
+    while read < plan.len() {
+        let input = read_once(&mut plan[read..]);
+        let Input::Read(more) = input else {
+            return Input::Failed;
+        };
+        if more == 0 {
+            return Input::Read(read);
+        }
+        read += more;
     }
-    text::put_list(page, &cuts, &sides, listed.count)
+    Input::Read(read)
 }
 
 fn main() {
-    let mut plan = [0u8; 265];
-    let read = io::read_full(STDIN_FILENO, &mut plan);
+    let mut plan = [0u8; DECIDING];
+    let input = read_plan(&mut plan);
+    let Input::Read(read) = input else {
+        io::write_all(STDERR_FILENO, b"list: cannot read standard input\n");
+        return;
+    };
     let mut page = [0u8; MAX_TEXT];
-    let printed = report(&plan[..read], &mut page);
-    io::write_all(STDOUT_FILENO, &page[..printed]);
+    let printed = report::report(&plan, read, &mut page);
+    if !io::write_all(STDOUT_FILENO, &page[..printed]) {
+        io::write_all(STDERR_FILENO, b"list: cannot write all of the output\n");
+    }
 }

@@ -42,8 +42,8 @@ fn write_number(out: &mut [u8], at: usize, n: usize) -> usize
     }
 }
 
-// Numbers to be written: k is one of them if the bit of weight 2^k is set. A kind of its own, so that to be written no set of edges
-// becomes one of nodes, nor the other way round.
+// Numbers to be written, as a set of bits: number k weighs 2^k. A kind of its own, so that on its way to the page a set of nodes never
+// becomes a set of edges.
 struct Numbers(u64);
 
 // Writes each number after a space, rising, from the offset `at` on.

@@ -6,8 +6,8 @@ use Prim.Native.Nat.{ℕ, zero, suc, _≤_, _<_}
 use native.Mathlib.Decide.{decLt}
 use native.Mathlib.Omega.{arith}
 use borrow.Author.Tests.{lt-ltb, le-ltb}
-use lib.ListN.{length, take, replicate, length-map, length-replicate}
-use lib.Seq.{take-at}
+use lib.ListN.{length, take, replicate, length-map, length-replicate, length-take}
+use lib.Seq.{take-at, take-all}
 use Rattle.network.specs.declared.Network.{Network}
 use Rattle.network.specs.Record.{unlessRefused, faultOf}
 use Rattle.format.specs.declared.Decoded.{Decoded}
@@ -15,11 +15,12 @@ use Rattle.format.specs.Format.{decodeOf}
 use Rattle.format.proofs.Reading.{decode-plan}
 use Rattle.format.proofs.Prefix.{decode-prefix}
 use Rattle.text.specs.Text.{refusalLine, listText, maxRows}
+use Rattle.text.specs.Written.{Printed}
 use Rattle.graph.specs.Relevant.{sourceSideOf}
 use Rattle.listing.specs.declared.Listed.{Listed}
 use Rattle.listing.specs.List.{mincuts, sourceSides, onto, listRefusal, listAnswer, listedBy, cutRowsAfter, sideRowsAfter}
 use Rattle.listing.proofs.Refusals.{refusal-outnumbered, refusal-none}
-use Rattle.list.specs.Report.{listReport, reportBy, reportOf}
+use Rattle.report.specs.Report.{listReport, reportBy, reportOf, Reported}
 
 -- ---- the list call
 
@@ -113,3 +114,12 @@ module _ (s : List ℕ) (d : Decoded) (read : d ≡ decodeOf s) where
 pub report-prefix : (s : List ℕ) → reportOf (take 265 s) ≡ reportOf s
 unfolding reportOf
 report-prefix s = rw (decode-prefix s)
+
+-- So bytes p that are the first 265 of s are reported as all of s.
+pub report-whole : {p q : List ℕ} {n : ℕ} (s : List ℕ) → p ≡ q → n ≡ 265 → q ≡ take n s → reportOf s ≡ reportOf p
+report-whole s e size f = sym (ap reportOf (e ∙ f ∙ ap (λ (k : ℕ). take k s) size) ∙ report-prefix s)
+
+-- So the report is that of the bytes read.
+pub report-read : {plan b a : List ℕ} {read r : ℕ} → Reported plan read b a r → Printed (reportOf (take read plan)) b a r
+report-read {plan} {read = n} h =
+    h .printed (take n plan) (sym (take-all (length plan) (take n plan) (omega (arith, length-take n plan))))

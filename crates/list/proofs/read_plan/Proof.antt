@@ -1,0 +1,91 @@
+-- `read_plan` meets its contract. The loop's invariant: no more bytes are counted than the plan has room for. The measure is the room left.
+-- Assumes nothing.
+use mathlib.Core.Path.{_≡_}
+use Prim.Native.Nat.{_-_, _≤_}
+use native.Mathlib.Omega.{arith}
+use lib.ListN.{length}
+use borrow.Author.Needs.{needs}
+use Rattle.list.proofs.read_plan.Statement.{statement}
+use Rattle.list.proofs.read_plan.Tie as tie
+
+abbrev Inv-loop : tie.InvT-loop
+Inv-loop plan₀ read₀ plan read = (read ≤ length plan) × (length plan ≡ length plan₀)
+
+abbrev μ-loop : tie.MeasureT-loop
+μ-loop plan₀ read₀ plan read = length plan - read
+
+-- No more bytes were read than there was room for.
+more : (c : tie.Else1 Inv-loop μ-loop)
+    → c .before .before .input .given .0 .0 ≤ length (c .before .before .before .before .before .before .read-once .last .0)
+more c = rw (c .before .before .input .given .1) at (c .before .before .before .before .before .before .read-once .ensures)
+
+loop-holds : tie.Need-loop-holds Inv-loop μ-loop
+loop-holds c = search needs
+
+sub-read-once : tie.Need-sub-read-once Inv-loop μ-loop
+sub-read-once c = search needs
+
+part-read-once-start : tie.Need-part-read-once-start Inv-loop μ-loop
+part-read-once-start c = search needs
+
+part-read-once-end : tie.Need-part-read-once-end Inv-loop μ-loop
+part-read-once-end c = search needs
+
+read-once-requires : tie.Need-read-once-requires Inv-loop μ-loop
+read-once-requires c κs = search needs
+
+enum-known-input : tie.Need-enum-known-input Inv-loop μ-loop
+enum-known-input c = search needs
+
+enum-told : tie.Need-enum-told Inv-loop μ-loop
+enum-told c = search needs
+
+same-length : tie.Need-same-length Inv-loop μ-loop
+same-length c = search needs
+
+returns : tie.Need-returns Inv-loop μ-loop
+returns c = search needs
+
+same-length-2 : tie.Need-same-length-2 Inv-loop μ-loop
+same-length-2 c = search needs
+
+returns-2 : tie.Need-returns-2 Inv-loop μ-loop
+returns-2 c = search needs
+
+add-read : tie.Need-add-read Inv-loop μ-loop
+add-read c = omega (arith, more c)
+
+loop-less : tie.Need-loop-less Inv-loop μ-loop
+loop-less c = search needs
+
+loop-again : tie.Need-loop-again Inv-loop μ-loop
+loop-again c = (omega (arith, more c), search needs)
+
+same-length-3 : tie.Need-same-length-3 Inv-loop μ-loop
+same-length-3 c = search needs
+
+returns-3 : tie.Need-returns-3 Inv-loop μ-loop
+returns-3 c = search needs
+
+pub read-plan-spec : {M : Type 1} → statement M
+read-plan-spec =
+    tie.close
+    (tie.spec
+    Inv-loop
+    μ-loop
+    loop-holds
+    sub-read-once
+    part-read-once-start
+    part-read-once-end
+    read-once-requires
+    enum-known-input
+    enum-told
+    same-length
+    returns
+    same-length-2
+    returns-2
+    add-read
+    loop-less
+    loop-again
+    same-length-3
+    returns-3)

@@ -1,0 +1,3 @@
+-- The laws of what the program prints.
+pub mod Reports
+pub mod Checks
