@@ -4,6 +4,8 @@ use std::fs;
 use std::io::Write;
 use std::path::{Path, PathBuf};
 use std::process::{Command, Stdio};
+use std::thread;
+use std::time::Duration;
 
 use cutlist_tests::plans;
 use cutlist_tests::rng::Rng;
@@ -13,19 +15,47 @@ fn root() -> PathBuf {
     Path::new(env!("CARGO_MANIFEST_DIR")).join("..")
 }
 
-/// What the program prints for these bytes on standard input.
-fn print(input: &[u8]) -> String {
+/// What the program prints for an input that comes in these parts, with a pause after each.
+fn print_parts<'a>(parts: impl Iterator<Item = &'a [u8]>, pause: Duration) -> String {
     let program = root().join("target/bin/list");
     let mut child = Command::new(&program)
         .stdin(Stdio::piped())
         .stdout(Stdio::piped())
+        .stderr(Stdio::piped())
         .spawn()
         .unwrap_or_else(|e| panic!("{}: {e}; `rt check list` makes it", program.display()));
-    // A plan that is decided before its end may be left unread.
-    let _ = child.stdin.take().expect("a pipe").write_all(input);
+    let mut input = child.stdin.take().expect("a pipe");
+    for part in parts {
+        // An input that is decided before its end may be left unread.
+        let _ = input.write_all(part);
+        thread::sleep(pause);
+    }
+    drop(input);
     let output = child.wait_with_output().expect("the program ends");
     assert!(output.status.success());
-    String::from_utf8(output.stdout).expect("text")
+    assert_eq!(text(&output.stderr), "");
+    text(&output.stdout)
+}
+
+/// What the program prints for these bytes on standard input.
+fn print(input: &[u8]) -> String {
+    print_parts([input].into_iter(), Duration::ZERO)
+}
+
+/// What the program writes to standard output and to standard error if a shell at the root of the
+/// repository starts it with these redirections.
+fn redirected(redirections: &str) -> (String, String) {
+    let output = Command::new("sh")
+        .current_dir(root())
+        .arg("-c")
+        .arg(format!("exec target/bin/list {redirections}"))
+        .output()
+        .expect("the shell runs");
+    (text(&output.stdout), text(&output.stderr))
+}
+
+fn text(bytes: &[u8]) -> String {
+    String::from_utf8(bytes.to_vec()).expect("text")
 }
 
 fn numbers(set: u64) -> String {
@@ -100,15 +130,87 @@ fn more_than_2048_cuts_are_refused_with_12() {
     assert_eq!(print(&most), expected(&most));
 }
 
+/// Two points joined by all 64 cables: the longest plan.
+fn longest() -> Vec<u8> {
+    let plan = plans::bytes(&halls::two_points(64));
+    assert_eq!(plan.len(), 262);
+    plan
+}
+
 #[test]
-fn bytes_past_265_are_not_read() {
-    let mut input = plans::bytes(&halls::complete(11));
-    let whole = print(&input);
-    assert!(whole.starts_with("cuts 512\n"));
-    input.push(0);
-    assert_eq!(print(&input), "refused 3\n");
-    input.resize(100_000, 0x43);
-    assert_eq!(print(&input), "refused 3\n");
+fn the_longest_plan_is_listed() {
+    assert_eq!(
+        print(&longest()),
+        format!("cuts 1\n{} | 0\n", numbers(u64::MAX))
+    );
+}
+
+#[test]
+fn a_byte_after_the_longest_plan_is_refused_with_3() {
+    for byte in [0x00, 0x43, 0x45] {
+        let mut plan = longest();
+        plan.push(byte);
+        assert_eq!(print(&plan), "refused 3\n");
+    }
+}
+
+#[test]
+fn a_65th_cable_is_refused_at_byte_265() {
+    for (number, refused) in [(64, "refused 7\n"), (63, "refused 8\n")] {
+        let mut plan = longest();
+        assert_eq!(plan.pop(), Some(0x45));
+        plan.extend([0x43, number, 0, 1]);
+        assert_eq!(plan.len(), 265);
+        assert_eq!(print(&plan), refused);
+        assert_eq!(print(&plan[..264]), "refused 1\n");
+        plan.push(0x45);
+        assert_eq!(print(&plan), refused);
+    }
+}
+
+#[test]
+fn a_long_input_is_decided_by_its_first_bytes() {
+    assert_eq!(print(&[0; 100_000]), "refused 2\n");
+    let mut plan = plans::bytes(&halls::complete(11));
+    assert!(print(&plan).starts_with("cuts 512\n"));
+    plan.resize(100_000, 0x43);
+    assert_eq!(print(&plan), "refused 3\n");
+    let mut plan = longest();
+    plan.resize(100_000, 0x43);
+    assert_eq!(print(&plan), "refused 3\n");
+}
+
+#[test]
+fn an_input_in_parts_is_put_together() {
+    let pause = Duration::from_millis(2);
+    let bridge = plans::bytes(&halls::bridge());
+    assert_eq!(print_parts(bridge.chunks(1), pause), print(&bridge));
+    let longest = longest();
+    for size in [1, 7, 100, 261] {
+        assert_eq!(print_parts(longest.chunks(size), pause), print(&longest));
+    }
+}
+
+#[test]
+fn a_read_that_fails_is_said_and_nothing_is_printed() {
+    let said = (
+        String::new(),
+        "list: cannot read standard input\n".to_string(),
+    );
+    assert_eq!(redirected("< crates"), said);
+    assert_eq!(redirected("<&-"), said);
+}
+
+#[test]
+fn an_output_that_is_lost_is_said() {
+    let said = (
+        String::new(),
+        "list: cannot write all of the output\n".to_string(),
+    );
+    for input in ["crates/list/stdin", "/dev/null"] {
+        assert_eq!(redirected(&format!("< {input} > /dev/full")), said);
+        assert_eq!(redirected(&format!("< {input} >&-")), said);
+    }
 }
 
 #[test]
