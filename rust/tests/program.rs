@@ -184,10 +184,10 @@ fn a_long_input_is_decided_by_its_first_bytes() {
 fn an_input_in_parts_is_put_together() {
     let pause = Duration::from_millis(2);
     let bridge = plans::bytes(&halls::bridge());
-    assert_eq!(print_parts(bridge.chunks(1), pause), print(&bridge));
+    assert_eq!(print_parts(bridge.chunks(1), pause), expected(&bridge));
     let longest = longest();
     for size in [1, 7, 100, 261] {
-        assert_eq!(print_parts(longest.chunks(size), pause), print(&longest));
+        assert_eq!(print_parts(longest.chunks(size), pause), expected(&longest));
     }
 }
 
