@@ -28,7 +28,7 @@ fn input_of(got: isize, room: &[u8]) -> Input
     Input::Read(io::count(got, room))
 }
 
-// One read of standard input into the lent bytes. No bytes are its end.
+// One read of standard input into the lent bytes. A count of 0 is the end of the input.
 fn read_once(room: &mut [u8]) -> Input
     ensures { λ r. ⌜ Within (length (now (room .exit))) r ⌝ }
 {
