@@ -28,6 +28,8 @@ use Rattle.graph.proofs.Cuts.{cutTest-iff, mincutTest-iff}
 use Rattle.graph.proofs.Relevant.{in-relevantNodes, in-relevantEdges}
 use Rattle.listing.specs.List.{passing, mincuts, sourceSides}
 use Rattle.demands.specs.Halls.{Judged, Hall, bridge, barCable, spur, hangingTriangle, noCable, twoCables, inARow, exchanged, halls, networkOf, widthTable, same, judgedTest, hallTests, hallTest, Established}
+use Rattle.text.specs.Text.{digits, decimal, spaced, numbers, lineOf, wordLine, rowLines, listText}
+use Rattle.report.specs.Report.{listReport, reportOf}
 use Rattle.listing.proofs.Meaning.{mincuts-complete}
 
 -- ---- the test is right
@@ -74,13 +76,14 @@ hall-right h t =
       reached = λ v. rw (← T-eqb (reachOf N (2 ^ N .source)) (h .reached) .0 (passed 5 (omega arith))) (in-reach-single N (S .bounded) (N .source) v);
       nodes = λ v. rw (← T-eqb (relevantNodes N) (h .nodes) .0 (passed 6 (omega arith))) (in-relevantNodes N S v);
       edges = λ e. rw (← T-eqb (relevantEdges N) (h .edges) .0 (passed 7 (omega arith))) (in-relevantEdges N S e);
+      printed = T-same (reportOf (h .plan)) (h .printed) (passed 8 (omega arith));
     }
 
 -- ---- the table
 
 -- Every hall of the table passes the test.
 halls-pass : T (every hallTest halls)
-unfolding has insert _∖_ size subsets countIf tabulate widthsOf _when_ _then_ sizeFault pairFault bare withEdge numberFault sizeRefusal terminalsRefusal edgeRefusal endRefusal sizeStep terminalsStep edgeStep edges afterTerminals afterSize decodeOf only membersFrom addIf across roundOver rounds reachOf severed every cutTest allNeeded mincutTest chosen edgesAt edgesWithin past pastAll relevantNodes relevantEdges sourceSideOf passing mincuts bridge barCable spur hangingTriangle noCable twoCables inARow exchanged halls same judgedTest hallTests hallTest
+unfolding has insert _∖_ size subsets countIf tabulate widthsOf _when_ _then_ sizeFault pairFault bare withEdge numberFault sizeRefusal terminalsRefusal edgeRefusal endRefusal sizeStep terminalsStep edgeStep edges afterTerminals afterSize decodeOf only membersFrom addIf across roundOver rounds reachOf severed every cutTest allNeeded mincutTest chosen edgesAt edgesWithin past pastAll relevantNodes relevantEdges sourceSideOf passing mincuts digits decimal spaced numbers lineOf wordLine rowLines listText listReport reportOf bridge barCable spur hangingTriangle noCable twoCables inARow exchanged halls same judgedTest hallTests hallTest
 halls-pass = tt
 
 -- So what it says of each hall is established.

@@ -2,7 +2,7 @@
 --
 --   Judged               a judged set: its number, whether it is a cut, and whether it is a mincut
 --   Hall                 a plan in bytes, its cuts and sides, the sets judged on it, how many cuts have width 0, 1, .., the points that the
---                        server reaches, and the relevant nodes and edges
+--                        server reaches, the relevant nodes and edges, and what the list program prints
 --   halls                the table; what the paper leaves out is worked out by hand
 --   networkOf h          the record read from the bytes
 --   widthTable h         the 65 counts of the width table
@@ -29,6 +29,8 @@ use Rattle.graph.specs.Reach.{reachOf}
 use Rattle.graph.specs.CutTests.{every, cutTest, mincutTest}
 use Rattle.graph.specs.Relevant.{relevantNodes, relevantEdges}
 use Rattle.listing.specs.List.{mincuts, sourceSides}
+use Rattle.text.specs.Ascii.{bytes}
+use Rattle.report.specs.Report.{reportOf}
 
 pub record Judged : Type 0 where
   pub set : ℕ
@@ -44,6 +46,7 @@ pub record Hall : Type 0 where
   pub reached : ℕ
   pub nodes : ℕ
   pub edges : ℕ
+  pub printed : List ℕ
 
 -- ---- the table
 
@@ -64,6 +67,7 @@ bridge = record {
   reached = 15;
   nodes = 15;
   edges = 31;
+  printed = bytes "cuts 4\n0 1 | 0\n1 2 3 | 0 1\n0 2 4 | 0 2\n3 4 | 0 1 2\n";
 }
 
 -- Room 3, cables 0: 0-1, 1: 0-2, 2: 1-2, 3: 1-3.
@@ -77,6 +81,7 @@ barCable = record {
   reached = 15;
   nodes = 15;
   edges = 15;
+  printed = bytes "cuts 3\n0 1 | 0\n0 2 | 0 2\n3 | 0 1 2\n";
 }
 
 -- Room 2, cables 0: 0-1, 1: 1-2, 2: 1-3.
@@ -90,6 +95,7 @@ spur = record {
   reached = 15;
   nodes = 7;
   edges = 3;
+  printed = bytes "cuts 2\n0 | 0\n1 | 0 1\n";
 }
 
 -- Room 2, cables 0: 0-1, 1: 1-2, 2: 1-3, 3: 3-4, 4: 4-1. Points 3 and 4 are reached and not relevant.
@@ -103,6 +109,7 @@ hangingTriangle = record {
   reached = 31;
   nodes = 7;
   edges = 3;
+  printed = bytes "cuts 2\n0 | 0\n1 | 0 1\n";
 }
 
 -- Two points, no cable.
@@ -116,6 +123,7 @@ noCable = record {
   reached = 1;
   nodes = 3;
   edges = 0;
+  printed = bytes "cuts 1\n- | 0\n";
 }
 
 -- Two points, cables 0 and 1.
@@ -129,6 +137,7 @@ twoCables = record {
   reached = 3;
   nodes = 3;
   edges = 3;
+  printed = bytes "cuts 1\n0 1 | 0\n";
 }
 
 -- Room 2, 0-1 by cable 0 and 1-2 by cable 1; and the same with the cables exchanged.
@@ -142,6 +151,7 @@ inARow = record {
   reached = 7;
   nodes = 7;
   edges = 3;
+  printed = bytes "cuts 2\n0 | 0\n1 | 0 1\n";
 }
 
 unfoldable pub exchanged : Hall
@@ -154,6 +164,7 @@ exchanged = record {
   reached = 7;
   nodes = 7;
   edges = 3;
+  printed = bytes "cuts 2\n0 | 0 1\n1 | 0\n";
 }
 
 unfoldable pub halls : List Hall
@@ -187,6 +198,7 @@ hallTests h =
     ∷ eqb (reachOf (networkOf h) (2 ^ networkOf h .source)) (h .reached)
     ∷ eqb (relevantNodes (networkOf h)) (h .nodes)
     ∷ eqb (relevantEdges (networkOf h)) (h .edges)
+    ∷ same (reportOf (h .plan)) (h .printed)
     ∷ []
 
 unfoldable pub hallTest : Hall → Bool
@@ -202,3 +214,4 @@ pub record Established (h : Hall) : Type 0 where
   pub reached : (v : ℕ) → (v ∈ h .reached) ↔ Connected (networkOf h) (networkOf h .source) v
   pub nodes : (v : ℕ) → (v ∈ h .nodes) ↔ RelevantNode (networkOf h) v
   pub edges : (e : ℕ) → (e ∈ h .edges) ↔ RelevantEdge (networkOf h) e
+  pub printed : reportOf (h .plan) ≡ h .printed

@@ -1,3 +1,2 @@
 -- The laws of what the program prints.
 pub mod Reports
-pub mod Checks

@@ -1,19 +1,11 @@
--- The definitions on texts that are known: the list of the bridge, the line of a cut without cables, a refusal, and the longest line.
+-- The definitions on texts that are known: the line of a cut without cables, a refusal, and the longest line.
 -- Assumes nothing.
 use mathlib.Core.Path.{_≡_, refl}
-use mathlib.Core.List.{[], _∷_}
 use Prim.Native.Nat.{_-_, _^_}
 use lib.ListN.{length}
 use Rattle.bitset.specs.Members.{has, membersFrom}
 use Rattle.text.specs.Ascii.{bytes}
-use Rattle.text.specs.Text.{digits, decimal, spaced, numbers, lineOf, wordLine, refusalLine, rowLines, listText, maxLine}
-
--- The list of the bridge, whole.
-pub bridge :
-    listText (3 ∷ 14 ∷ 21 ∷ 24 ∷ []) (1 ∷ 3 ∷ 5 ∷ 7 ∷ [])
-    ≡ bytes "cuts 4\n0 1 | 0\n1 2 3 | 0 1\n0 2 4 | 0 2\n3 4 | 0 1 2\n"
-unfolding has membersFrom digits decimal spaced numbers lineOf wordLine rowLines listText
-bridge = refl
+use Rattle.text.specs.Text.{digits, decimal, spaced, numbers, lineOf, wordLine, refusalLine, maxLine}
 
 -- A cut without cables.
 pub no-cable : lineOf 0 16 ≡ bytes "- | 4\n"
