@@ -1,4 +1,4 @@
--- The laws of `_when_` and `_then_`, by which the rules are put together.
+-- The laws of `_when_` and `_then_`, by which the rules are put together, and of `unlessRefused`.
 -- Assumes nothing.
 use mathlib.Core.Bool.{Bool, true, false, _||_, true≢false}
 use mathlib.Core.Path.{_≡_, refl, ap}
@@ -6,7 +6,7 @@ use Prim.Native.Nat.{ℕ, zero, suc, _≤_, _<_, zero-le}
 use native.Mathlib.Omega.{arith}
 use borrow.Author.Tests.{ltb-false, leb-false, eqb-false}
 use lib.Dec.{leb, ltb, eqb}
-use Rattle.network.specs.Record.{_when_, _then_, sizeFault, pairFault}
+use Rattle.network.specs.Record.{_when_, _then_, unlessRefused, sizeFault, pairFault}
 
 -- Two rules in a row find no fault exactly if neither does.
 pub then-none : (r s : ℕ) → (r then s) ≡ 0 → (r ≡ 0) × (s ≡ 0)
@@ -37,6 +37,11 @@ none-when r e = ap (λ b. r when b) e
 pub some-when : (r : ℕ) {b : Bool} → b ≡ true → (r when b) ≡ r
 unfolding _when_
 some-when r e = ap (λ b. r when b) e
+
+-- A refusal decides.
+pub refused-some : {A : Type 0} (r : ℕ) (a b : A) → (r ≡ 0 → ⊥) → unlessRefused r a b ≡ b
+refused-some zero a b d = absurd (d refl)
+refused-some (suc r) a b d = refl
 
 -- A disjunction that fails fails on both sides.
 pub or-none : (a b : Bool) → (a || b) ≡ false → (a ≡ false) × (b ≡ false)

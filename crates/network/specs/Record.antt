@@ -2,7 +2,7 @@
 --
 --   r when b         the refusal r where b holds, else 0
 --   r then s         r unless it is 0, else s: the first fault decides
---   unlessRefused r after before      what lent memory holds after a call with the refusal r
+--   unlessRefused r a b      a, or b where r is a refusal: what a call gives, and what lent memory holds after it
 --   sizeFault, pairFault, terminalFault, endFault, absentFault      the rules of the paper's table "Who causes a refusal"
 --   slots            the numbers of the 64 edge slots, rising
 --   slot N k         what slot k holds
@@ -29,10 +29,10 @@ unfoldable pub _then_ : ℕ → ℕ → ℕ
 zero then s = s
 suc r then s = suc r
 
--- Lent rows or bytes after a call with the refusal r, where they were `before`: on refusal they are as they were.
-abbrev pub unlessRefused : ℕ → List ℕ → List ℕ → List ℕ
-unlessRefused zero after before = after
-unlessRefused (suc r) after before = before
+-- What a call gives, a, or b where it is refused by r; and what lent rows or bytes hold after it, b being what they held before.
+abbrev pub unlessRefused : {A : Type 0} → ℕ → A → A → A
+unlessRefused zero a b = a
+unlessRefused (suc r) a b = b
 
 -- ---- the rules
 
