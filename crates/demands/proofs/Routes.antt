@@ -10,7 +10,7 @@ use Rattle.lists.specs.Distinct.{Distinct}
 use Rattle.bitset.specs.Members.{has, insert, _∖_, membersFrom}
 use Rattle.network.specs.declared.Network.{Network}
 use Rattle.network.specs.Record.{_when_, _then_, sizeFault, pairFault, bare, withEdge}
-use Rattle.format.specs.Format.{numberFault, sizeRefusal, terminalsRefusal, edgeRefusal, endRefusal, sizeStep, terminalsStep, edgeStep, edges, afterTerminals, afterSize, decodeOf}
+use Rattle.format.specs.Format.{numberFault, sizeRefusal, terminalsRefusal, edgeRefusal, endRefusal, sizeStep, terminalsStep, edgeStep, ifTaken, edges, decodeOf}
 use Rattle.graph.specs.Paths.{Joins, Step, Leads, edgesOf, Minpath}
 use Rattle.graph.specs.Cuts.{only, Mincut}
 use Rattle.graph.specs.Lists.{CompleteList}
@@ -23,7 +23,7 @@ later differs absent m = elim (List·Memᴰ·cases-cons m) [ inl e ↦ differs e
 
 -- The two cables are a route.
 route : Minpath (networkOf inARow) 3
-unfolding Distinct has insert _∖_ membersFrom _when_ _then_ sizeFault pairFault bare withEdge numberFault sizeRefusal terminalsRefusal edgeRefusal endRefusal sizeStep terminalsStep edgeStep edges afterTerminals afterSize decodeOf Joins Leads edgesOf inARow
+unfolding Distinct has insert _∖_ membersFrom _when_ _then_ sizeFault pairFault bare withEdge numberFault sizeRefusal terminalsRefusal edgeRefusal endRefusal sizeStep terminalsStep edgeStep ifTaken edges decodeOf Joins Leads edgesOf inARow
 route = record {
   steps = record { edge = 0; to = 1 } ∷ record { edge = 1; to = 2 } ∷ [];
   leads = ((tt, inl (refl, refl)), ((tt, inl (refl, refl)), refl));

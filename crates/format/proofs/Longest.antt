@@ -5,7 +5,7 @@ use mathlib.Core.Path.{_≡_, refl}
 use Prim.Native.Nat.{ℕ, _≤_}
 use lib.ListN.{length}
 use Rattle.network.specs.Record.{_when_, _then_, rising, slots, sizeFault, pairFault, bare, withEdge}
-use Rattle.format.specs.Format.{decodeOf, afterSize, afterTerminals, edges, sizeStep, sizeRefusal, terminalsStep, terminalsRefusal, edgeStep, edgeRefusal, endRefusal, numberFault}
+use Rattle.format.specs.Format.{ifTaken, edges, decodeOf, sizeStep, sizeRefusal, terminalsStep, terminalsRefusal, edgeStep, edgeRefusal, endRefusal, numberFault}
 use Rattle.format.proofs.Reading.{accepts, decode-plan}
 use Rattle.format.proofs.Writing.{encode-length}
 
@@ -24,5 +24,5 @@ unfolding longest flatMap rising
 longest-length = refl
 
 pub longest-accepted : decodeOf longest .refusal ≡ 0
-unfolding longest flatMap rising decodeOf afterSize afterTerminals edges sizeStep sizeRefusal terminalsStep terminalsRefusal edgeStep edgeRefusal endRefusal numberFault sizeFault pairFault bare withEdge _when_ _then_
+unfolding longest flatMap rising decodeOf ifTaken edges sizeStep sizeRefusal terminalsStep terminalsRefusal edgeStep edgeRefusal endRefusal numberFault sizeFault pairFault bare withEdge _when_ _then_
 longest-accepted = refl

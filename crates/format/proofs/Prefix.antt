@@ -1,7 +1,7 @@
 -- The first 265 bytes decide.
 -- Assumes nothing.
 use mathlib.Core.List.{List, [], _∷_}
-use mathlib.Core.Path.{_≡_, refl, ap, ap₂, sym, _∙_}
+use mathlib.Core.Path.{_≡_, refl, ap, sym, _∙_}
 use Prim.Native.Nat.{ℕ, zero, suc, _+_, _-_, _*_, _≤_, _<_}
 use native.Mathlib.Nat.{le-refl}
 use native.Mathlib.Decide.{decLt}
@@ -12,8 +12,8 @@ use lib.Seq.{getD-take, take-nil}
 use borrow.Author.Tests.{lt-ltb, le-ltb}
 use Rattle.network.specs.declared.Network.{Network}
 use Rattle.network.specs.Record.{withEdge, bare}
-use Rattle.format.specs.Format.{sizeRefusal, terminalsRefusal, edgeRefusal, endRefusal, sizeStep, terminalsStep, edgeStep, edges, afterSize, afterTerminals, decodeOf}
-use Rattle.format.proofs.Steps.{SizeView, size, size-view, TerminalsView, terminals, terminals-view, EdgeView, edge, end, edge-view}
+use Rattle.format.specs.Format.{at, sizeRefusal, terminalsRefusal, edgeRefusal, endRefusal, sizeStep, terminalsStep, edgeStep, ifTaken, edges, walk, decodeOf}
+use Rattle.format.proofs.Steps.{EdgeView, edge, end, edge-view}
 use Rattle.format.proofs.Walk.{edges-edge, edges-end, edges-refused, edges-turns}
 
 module _ (m : ℕ) (s : List ℕ) where
@@ -85,29 +85,21 @@ edges-take (suc turns) N next m s h d =
         ∙ later k a b l (omega arith)
         ∙ sym (edges-edge turns N next s step)
     go later (end step p) = edges-end turns N next (take m s) (same ∙ step) ∙ sym (edges-end turns N next s step)
-    go later (EdgeView.refused r step p b) = edges-refused turns N next (take m s) (same ∙ step) ∙ sym (edges-refused turns N next s step)
+    go later (EdgeView.refused r step p b) = edges-refused turns N next (take m s) (same ∙ step) p ∙ sym (edges-refused turns N next s step p)
 
-terminals-prefix : (n : ℕ) (s : List ℕ)
-    → afterTerminals n (terminalsStep n (take 263 s)) (drop 3 (take 263 s)) ≡ afterTerminals n (terminalsStep n s) (drop 3 s)
-unfolding afterTerminals
-terminals-prefix n s =
-    ap₂ (afterTerminals n) (terminals-take 263 s n (omega arith)) (drop-take 3 263 s (omega arith)) ∙ go (terminals-view n s)
-  where
-    go : TerminalsView n s → afterTerminals n (terminalsStep n s) (take 260 (drop 3 s)) ≡ afterTerminals n (terminalsStep n s) (drop 3 s)
-    go (terminals a b rest step p f) =
-        let left : List ℕ = drop 3 s in
-        let fits : length (take 260 left) ≤ length left = omega (arith, length-take 260 left) in
-        rw step
-        (edges-turns (length (take 260 left)) (length left) (bare n a b) 0 (take 260 left) (le-refl _) fits
-        ∙ edges-take (length left) (bare n a b) 0 260 left (omega arith) (omega arith))
-    go (TerminalsView.refused r step p b) = rw step
+-- The same of the whole walk.
+walk-prefix : (N : Network) (s : List ℕ) → walk N 0 (take 260 s) ≡ walk N 0 s
+walk-prefix N s =
+    edges-turns (length (take 260 s)) (length s) N 0 (take 260 s) (le-refl _) (omega (arith, length-take 260 s))
+    ∙ edges-take (length s) N 0 260 s (omega arith) (omega arith)
 
 -- Reading any bytes and reading their first 265 give the same answer.
 pub decode-prefix : (s : List ℕ) → decodeOf (take 265 s) ≡ decodeOf s
-unfolding decodeOf afterSize
+unfolding decodeOf
 decode-prefix s =
-    ap₂ afterSize (size-take 265 s (omega arith)) (drop-take 2 265 s (omega arith)) ∙ go (size-view s)
-  where
-    go : SizeView s → afterSize (sizeStep s) (take 263 (drop 2 s)) ≡ afterSize (sizeStep s) (drop 2 s)
-    go (size n rest step p f) = rw step (terminals-prefix n (drop 2 s))
-    go (SizeView.refused r step p b) = rw step
+    let first : sizeStep (take 265 s) ≡ sizeStep s = size-take 265 s (omega arith) in
+    let second : (n : ℕ) → terminalsStep n (drop 2 (take 265 s)) ≡ terminalsStep n (drop 2 s) =
+    λ n. ap (terminalsStep n) (drop-take 2 265 s (omega arith)) ∙ terminals-take 263 (drop 2 s) n (omega arith) in
+    let later : (N : Network) → walk N 0 (drop 5 (take 265 s)) ≡ walk N 0 (drop 5 s) =
+    λ N. ap (walk N 0) (drop-take 5 265 s (omega arith)) ∙ walk-prefix N (drop 5 s) in
+    λ i. ifTaken (first i) (λ v. ifTaken (second (at v 0) i) (λ w. later (bare (at v 0) (at w 0) (at w 1)) i))

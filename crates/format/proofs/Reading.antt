@@ -10,12 +10,12 @@ use native.Mathlib.Omega.{arith}
 use lib.ListN.{length, drop, getD-replicate}
 use Rattle.bitset.proofs.Members.{has-zero}
 use Rattle.network.specs.declared.Network.{Network}
-use Rattle.network.specs.Record.{Stored, Slot, slot, rising, slotFault, endFault, sizeFault, absentFault, faultOf, bare, withEdge, hasEdge, firstEnd, secondEnd, noNetwork}
+use Rattle.network.specs.Record.{Stored, Slot, slot, rising, slotFault, endFault, absentFault, faultOf, bare, withEdge, hasEdge, firstEnd, secondEnd, noNetwork}
 use Rattle.network.proofs.Slots.{empty, slotFault-of, withEdge-same, withEdge-other, withEdge-stored, accepted-none}
 use Rattle.format.specs.declared.Decoded.{Decoded}
-use Rattle.format.specs.Format.{edges, accept, refuse, edgeCommand, encodeOf, decodeOf, afterSize, afterTerminals, terminalsStep}
-use Rattle.format.proofs.Steps.{EdgeView, edge, end, edge-view, SizeView, size, size-view, TerminalsView, terminals, terminals-view}
-use Rattle.format.proofs.Walk.{edges-edge, edges-end, edges-refused}
+use Rattle.format.specs.Format.{accept, refuse, edges, decodeOf, edgeCommand, encodeOf}
+use Rattle.format.proofs.Steps.{EdgeView, edge, end, edge-view}
+use Rattle.format.proofs.Walk.{HeaderView, header, header-view, edges-edge, edges-end, edges-refused}
 use Rattle.format.proofs.Commands.{command-of, commands-skip}
 
 -- The slots of N from `next` on are empty.
@@ -103,7 +103,7 @@ reads-more turns M before N next left s t e stored none q = go (edge-view (N .no
     go (end step p) =
         rw p (subst (λ (x : Network). Read N x next left (0x45 ∷ [])) (accept-network (sym (edges-end turns N next s step) ∙ q))
         (read-end N next left e stored none))
-    go (EdgeView.refused r step p b) = absurd (not-refused p (sym (edges-refused turns N next s step) ∙ q))
+    go (EdgeView.refused r step p b) = absurd (not-refused p (sym (edges-refused turns N next s step p) ∙ q))
 
 edges-read : (turns : ℕ) (M : Network) → Reads turns M
 unfolding edges
@@ -136,41 +136,28 @@ pub record Plan (s : List ℕ) (N : Network) : Type 0 where
   pub accepted : faultOf N ≡ 0
   pub stored : Stored N
 
-terminals-read : (n : ℕ) (s : List ℕ) (N : Network) → sizeFault n ≡ 0 → afterTerminals n (terminalsStep n s) (drop 3 s) ≡ accept N
-    → Plan (0x50 ∷ n ∷ s) N
-unfolding afterTerminals encodeOf bare
-terminals-read n s N z q = go (terminals-view n s)
+-- Bytes that are accepted are the bytes of the record read, and it passes the record test.
+pub decode-plan : (s : List ℕ) (N : Network) → decodeOf s ≡ accept N → Plan s N
+unfolding encodeOf bare
+decode-plan s N q = go (header-view s)
   where
-    go : TerminalsView n s → Plan (0x50 ∷ n ∷ s) N
-    go (terminals a b rest step p f) =
-        let here : edges (length rest) (bare n a b) 0 rest ≡ accept N =
-        sym (ap₂ (λ x y. afterTerminals n x (drop 3 y)) step p) ∙ q in
-        let r = edges-read (length rest) N (bare n a b) 0 64 rest (le-refl (length rest)) refl (bare-stored n a b) (λ j h l. bare-empty n a b j l) here in
+    go : HeaderView s → Plan s N
+    go (header n a b rest on p f g) =
+        let r = edges-read (length rest) N (bare n a b) 0 64 rest (le-refl (length rest)) refl (bare-stored n a b) (λ j h l. bare-empty n a b j l) (sym on ∙ q) in
         record {
           bytes =
               ap₂ (λ x y. 0x50 ∷ x ∷ 0x53 ∷ N .source ∷ N .sink ∷ y) (r .nodes) (sym (r .bytes))
               ∙ ap₂ (λ x y. 0x50 ∷ n ∷ 0x53 ∷ x ∷ y ∷ rest) (r .source) (r .sink)
-              ∙ ap (λ x. 0x50 ∷ n ∷ x) (sym p);
+              ∙ sym p;
           accepted =
               accepted-none N (record {
-                size = rw (r .nodes) z;
-                terminals = rw (r .nodes, r .source, r .sink) f;
+                size = rw (r .nodes) f;
+                terminals = rw (r .nodes, r .source, r .sink) g;
                 slot-none = r .sound (λ j l. bare-sound n a b j l);
               });
           stored = r .stored;
         }
-    go (TerminalsView.refused r step p b) =
-        absurd (not-refused p (sym (ap (λ x. afterTerminals n x (drop 3 s)) step) ∙ q))
-
--- Bytes that are accepted are the bytes of the record read, and it passes the record test.
-pub decode-plan : (s : List ℕ) (N : Network) → decodeOf s ≡ accept N → Plan s N
-unfolding decodeOf afterSize
-decode-plan s N q = go (size-view s)
-  where
-    go : SizeView s → Plan s N
-    go (size n rest step p f) =
-        rw p (terminals-read n rest N f (sym (ap₂ (λ x y. afterSize x (drop 2 y)) step p) ∙ q))
-    go (SizeView.refused r step p b) = absurd (not-refused p (sym (ap (λ x. afterSize x (drop 2 s)) step) ∙ q))
+    go (HeaderView.refused r e p b) = absurd (not-refused p (sym e ∙ q))
 
 -- The refusal's number alone says whether the bytes are accepted.
 pub accepts : (s : List ℕ) → decodeOf s .refusal ≡ 0 → decodeOf s ≡ accept (decodeOf s .network)
@@ -199,20 +186,11 @@ edges-answer (suc turns) N next s =
         → Answer (edges (suc turns) N next s)
     go later (edge k a b rest step p h l f) = subst Answer (sym (edges-edge turns N next s step)) (later k a b)
     go later (end step p) = subst Answer (sym (edges-end turns N next s step)) (accept-answer N)
-    go later (EdgeView.refused r step p b) = subst Answer (sym (edges-refused turns N next s step)) (refuse-answer r b)
-
-terminals-answer : (n : ℕ) (s : List ℕ) → Answer (afterTerminals n (terminalsStep n s) (drop 3 s))
-unfolding afterTerminals
-terminals-answer n s = go (terminals-view n s)
-  where
-    go : TerminalsView n s → Answer (afterTerminals n (terminalsStep n s) (drop 3 s))
-    go (terminals a b rest step p f) = rw step (edges-answer (length (drop 3 s)) (bare n a b) 0 (drop 3 s))
-    go (TerminalsView.refused r step p b) = rw step (refuse-answer r b)
+    go later (EdgeView.refused r step p b) = subst Answer (sym (edges-refused turns N next s step p)) (refuse-answer r b)
 
 pub decode-answer : (s : List ℕ) → Answer (decodeOf s)
-unfolding decodeOf afterSize
-decode-answer s = go (size-view s)
+decode-answer s = go (header-view s)
   where
-    go : SizeView s → Answer (decodeOf s)
-    go (size n rest step p f) = rw step (terminals-answer n (drop 2 s))
-    go (SizeView.refused r step p b) = rw step (refuse-answer r b)
+    go : HeaderView s → Answer (decodeOf s)
+    go (header n a b rest on p f g) = subst Answer (sym on) (edges-answer (length rest) (bare n a b) 0 rest)
+    go (HeaderView.refused r e p b) = subst Answer (sym e) (refuse-answer r b)

@@ -3,7 +3,7 @@
 use mathlib.Core.Bool.{not}
 use mathlib.Core.List.{List, [], _∷_}
 use mathlib.Core.Path.{_≡_, refl, ap, sym, subst, _∙_}
-use Prim.Native.Nat.{ℕ, zero, suc, _-_, _≤_, _<_}
+use Prim.Native.Nat.{ℕ, zero, suc, _≤_, _<_}
 use native.Mathlib.Nat.{le-refl}
 use native.Mathlib.Omega.{arith}
 use lib.Dec.{T}
@@ -12,10 +12,11 @@ use mir.Val.{hasKey}
 use types.Run.{OneOf, miss}
 use denote.Enum.Declared.{tagOf}
 use Rattle.network.specs.declared.Network.{Network}
-use Rattle.network.specs.Record.{_when_, _then_, bare, withEdge}
+use Rattle.network.specs.Record.{_when_, _then_, sizeFault, terminalFault, bare, withEdge}
+use Rattle.network.proofs.Refusals.{refused-some}
 use Rattle.format.specs.declared.Decoded.{Decoded}
 use Rattle.format.specs.declared.Step.{Step}
-use Rattle.format.specs.Format.{sizeStep, terminalsStep, edgeStep, edgeRefusal, number, accept, refuse, endedBy, edges, walk, afterTerminals, afterSize, decodeOf}
+use Rattle.format.specs.Format.{at, sizeStep, terminalsStep, edgeStep, edgeRefusal, told, accept, refuse, ifTaken, edges, walk, decodeOf}
 use Rattle.format.proofs.Step as step-type
 use Rattle.format.proofs.Steps.{SizeView, size, size-view, TerminalsView, terminals, terminals-view, EdgeView, edge, end, edge-view}
 
@@ -27,67 +28,82 @@ Tagged ks t = OneOf ks (tagOf step-type.the-type t)
 other-tag : (ks : List ℕ) (t u : Step) → Tagged ks t → T (not (hasKey ks (tagOf step-type.the-type u))) → t ≡ u → ⊥
 other-tag ks t u h n e = miss ks (tagOf step-type.the-type u) n (subst (Tagged ks) e h)
 
+-- A refusal decides.
+refusal-decides : {t : Step} {r : ℕ} (goOn : List ℕ → Decoded) → t ≡ Step.Refused r → 0 < r → ifTaken t goOn ≡ refuse r
+unfolding ifTaken
+refusal-decides {t} {r} goOn e p = rw e (refused-some r (goOn []) (refuse r) (λ z. omega arith))
+
 -- ---- the size, source and sink
 
 -- The answer to the first command: a size goes on, and any other stops the reader.
 module _ (s : List ℕ) {t : Step} (e : t ≡ sizeStep s) where
-  pub size-goes : {n : ℕ} → t ≡ Step.Size n → decodeOf s ≡ afterTerminals n (terminalsStep n (drop 2 s)) (drop 3 (drop 2 s))
-  unfolding decodeOf afterSize
-  size-goes f = ap (λ x. afterSize x (drop 2 s)) (sym e ∙ f)
-
-  pub size-stops : Tagged (1 ∷ 2 ∷ 3 ∷ 4 ∷ []) t → refuse (number t) ≡ decodeOf s
-  unfolding decodeOf afterSize
+  pub size-stops : Tagged (1 ∷ 2 ∷ 3 ∷ 4 ∷ []) t → refuse (told t .number) ≡ decodeOf s
+  unfolding decodeOf
   size-stops h = go (size-view s)
     where
-      go : SizeView s → refuse (number t) ≡ decodeOf s
+      go : SizeView s → refuse (told t .number) ≡ decodeOf s
       go (size n rest step p f) = absurd (other-tag (1 ∷ 2 ∷ 3 ∷ 4 ∷ []) t (Step.Size n) h tt (e ∙ step))
-      go (SizeView.refused r step p b) = ap (λ x. refuse (number x)) (e ∙ step) ∙ sym (ap (λ x. afterSize x (drop 2 s)) step)
+      go (SizeView.refused r step p b) = ap (λ x. refuse (told x .number)) (e ∙ step) ∙ sym (refusal-decides _ step p)
 
--- The same of the second.
-module _ (n : ℕ) (s : List ℕ) {t : Step} (e : t ≡ terminalsStep n s) where
-  pub terminals-goes : {a b : ℕ} → t ≡ Step.Terminals a b → afterTerminals n (terminalsStep n s) (drop 3 s) ≡ walk (bare n a b) 0 (drop 3 s)
-  unfolding afterTerminals
-  terminals-goes f = ap (λ x. afterTerminals n x (drop 3 s)) (sym e ∙ f)
+  -- The same of the second.
+  module _ {n : ℕ} (taken : t ≡ Step.Size n) {u : Step} (f : u ≡ terminalsStep n (drop 2 s)) where
+    size-goes : decodeOf s ≡ ifTaken u (λ v. walk (bare n (at v 0) (at v 1)) 0 (drop 5 s))
+    unfolding decodeOf ifTaken
+    size-goes = rw (sym e ∙ taken, f)
 
-  pub terminals-stops : Tagged (0 ∷ 2 ∷ 3 ∷ 4 ∷ []) t → refuse (number t) ≡ afterTerminals n (terminalsStep n s) (drop 3 s)
-  unfolding afterTerminals
-  terminals-stops h = go (terminals-view n s)
-    where
-      go : TerminalsView n s → refuse (number t) ≡ afterTerminals n (terminalsStep n s) (drop 3 s)
-      go (terminals a b rest step p f) = absurd (other-tag (0 ∷ 2 ∷ 3 ∷ 4 ∷ []) t (Step.Terminals a b) h tt (e ∙ step))
-      go (TerminalsView.refused r step p b) = ap (λ x. refuse (number x)) (e ∙ step) ∙ sym (ap (λ x. afterTerminals n x (drop 3 s)) step)
+    pub terminals-goes : {a b : ℕ} → u ≡ Step.Terminals a b → decodeOf s ≡ walk (bare n a b) 0 (drop 5 s)
+    unfolding ifTaken
+    terminals-goes g = size-goes ∙ rw g
+
+    pub terminals-stops : Tagged (0 ∷ 2 ∷ 3 ∷ 4 ∷ []) u → refuse (told u .number) ≡ decodeOf s
+    terminals-stops h = go (terminals-view n (drop 2 s))
+      where
+        go : TerminalsView n (drop 2 s) → refuse (told u .number) ≡ decodeOf s
+        go (terminals a b rest step p g) = absurd (other-tag (0 ∷ 2 ∷ 3 ∷ 4 ∷ []) u (Step.Terminals a b) h tt (f ∙ step))
+        go (TerminalsView.refused r step p b) =
+            ap (λ x. refuse (told x .number)) (f ∙ step) ∙ sym (size-goes ∙ refusal-decides _ (f ∙ step) p)
+
+-- What the first two commands tell of the bytes: the values that they have, or the refusal.
+pub data HeaderView (s : List ℕ) : Type 0 where
+  header : (n a b : ℕ) (rest : List ℕ) → decodeOf s ≡ walk (bare n a b) 0 rest → s ≡ 0x50 ∷ n ∷ 0x53 ∷ a ∷ b ∷ rest
+      → sizeFault n ≡ 0 → terminalFault n a b ≡ 0 → HeaderView s
+  refused : (r : ℕ) → decodeOf s ≡ refuse r → 0 < r → r ≤ 10 → HeaderView s
+
+pub header-view : (s : List ℕ) → HeaderView s
+unfolding decodeOf
+header-view s = go (size-view s)
+  where
+    on : (n : ℕ) (rest : List ℕ) → sizeStep s ≡ Step.Size n → s ≡ 0x50 ∷ n ∷ rest → sizeFault n ≡ 0 → TerminalsView n (drop 2 s) → HeaderView s
+    on n rest step p f (terminals a b rest′ step′ p′ g) =
+        let bytes : s ≡ 0x50 ∷ n ∷ 0x53 ∷ a ∷ b ∷ rest′ = p ∙ ap (λ x. 0x50 ∷ n ∷ x) (sym (ap (drop 2) p) ∙ p′) in
+        header n a b rest′ (terminals-goes s refl step refl step′ ∙ ap (λ x. walk (bare n a b) 0 (drop 5 x)) bytes) bytes f g
+    on n rest step p f (TerminalsView.refused r step′ l b) =
+        HeaderView.refused r (size-goes s refl step refl ∙ refusal-decides _ step′ l) l b
+
+    go : SizeView s → HeaderView s
+    go (size n rest step p f) = on n rest step p f (terminals-view n (drop 2 s))
+    go (SizeView.refused r step l b) = HeaderView.refused r (refusal-decides _ step l) l b
 
 -- ---- the edges and the end
 
+-- A turn, by the answer of its step.
 module _ (turns : ℕ) (N : Network) (next : ℕ) (s : List ℕ) where
-  -- What a turn does with a step's answer.
-  turn : Step → Decoded
-  turn (Step.Size n) = refuse 2
-  turn (Step.Terminals a b) = refuse 2
-  turn (Step.Edge k a b) = edges turns (withEdge N k a b) (suc k) (drop 4 s)
-  turn Step.End = accept N
-  turn (Step.Refused r) = refuse r
-
-  edges-turn : edges (suc turns) N next s ≡ turn (edgeStep (N .nodes) next s)
-  unfolding edges turn
-  edges-turn = refl
-
   pub edges-edge : {k a b : ℕ} → edgeStep (N .nodes) next s ≡ Step.Edge k a b
       → edges (suc turns) N next s ≡ edges turns (withEdge N k a b) (suc k) (drop 4 s)
-  unfolding turn
-  edges-edge e = edges-turn ∙ ap turn e
+  unfolding edges ifTaken
+  edges-edge e = rw e
 
   pub edges-end : edgeStep (N .nodes) next s ≡ Step.End → edges (suc turns) N next s ≡ accept N
-  unfolding turn
-  edges-end e = edges-turn ∙ ap turn e
+  unfolding edges ifTaken
+  edges-end e = rw e
 
-  pub edges-refused : {r : ℕ} → edgeStep (N .nodes) next s ≡ Step.Refused r → edges (suc turns) N next s ≡ refuse r
-  unfolding turn
-  edges-refused e = edges-turn ∙ ap turn e
+  pub edges-refused : {r : ℕ} → edgeStep (N .nodes) next s ≡ Step.Refused r → 0 < r → edges (suc turns) N next s ≡ refuse r
+  unfolding edges
+  edges-refused e p = refusal-decides _ e p
 
 -- More turns than bytes change nothing.
 edges-nothing : (turns : ℕ) (N : Network) (next : ℕ) → edges turns N next [] ≡ refuse 1
-unfolding edges edgeStep edgeRefusal _when_ _then_
+unfolding edges edgeStep edgeRefusal ifTaken _when_ _then_
 edges-nothing zero N next = refl
 edges-nothing (suc turns) N next = refl
 
@@ -109,7 +125,7 @@ edges-turns (suc t) (suc u) N next s h h′ =
         ∙ rw left (later k a b rest (omega arith) (omega arith))
         ∙ sym (edges-edge u N next s step)
     go later (end step p) = edges-end t N next s step ∙ sym (edges-end u N next s step)
-    go later (EdgeView.refused r step p b) = edges-refused t N next s step ∙ sym (edges-refused u N next s step)
+    go later (EdgeView.refused r step p b) = edges-refused t N next s step p ∙ sym (edges-refused u N next s step p)
 
 -- An edge's step tells its number's range and that its bytes are there.
 pub edge-known : (n next : ℕ) (s : List ℕ) {k a b : ℕ} → edgeStep n next s ≡ Step.Edge k a b → (k < 64) × (4 ≤ length s)
@@ -121,29 +137,20 @@ edge-known n next s {k} {a} {b} e = go (edge-view n next s)
     go (EdgeView.refused r step p q) = absurd (let z : _≡_ {A = ℕ} 0 1 = cc in omega arith)
 
 -- The walk goes on after an edge, and any other answer of a step ends it.
-pub walk-edge : (N : Network) (next : ℕ) (s : List ℕ) {k a b : ℕ} → edgeStep (N .nodes) next s ≡ Step.Edge k a b
-    → walk N next s ≡ walk (withEdge N k a b) (suc k) (drop 4 s)
-walk-edge N next s {k} {a} {b} e =
-    let long = edge-known (N .nodes) next s e in
-    let more : length s ≡ suc (length s - 1) = omega arith in
-    ap (λ t. edges t N next s) more ∙ edges-edge (length s - 1) N next s e
-    ∙ edges-turns (length s - 1) (length (drop 4 s)) (withEdge N k a b) (suc k) (drop 4 s) (simp length-drop (omega arith)) (le-refl _)
+module _ (N : Network) (next : ℕ) (s : List ℕ) where
+  walk-turn : walk N next s ≡ edges (suc (length s)) N next s
+  walk-turn = edges-turns (length s) (suc (length s)) N next s (le-refl _) (omega arith)
 
-pub refuse-ended : (r : ℕ) (N : Network) → 0 < r → refuse r ≡ endedBy r N
-refuse-ended zero N p = absurd (omega arith)
-refuse-ended (suc r) N p = refl
+  pub walk-edge : {k a b : ℕ} → edgeStep (N .nodes) next s ≡ Step.Edge k a b → walk N next s ≡ walk (withEdge N k a b) (suc k) (drop 4 s)
+  walk-edge {k} {a} {b} e =
+      walk-turn ∙ edges-edge (length s) N next s e
+      ∙ edges-turns (length s) (length (drop 4 s)) (withEdge N k a b) (suc k) (drop 4 s) (simp length-drop (omega arith)) (le-refl _)
 
-walk-nothing : (N : Network) (next : ℕ) → endedBy (number (edgeStep (N .nodes) next [])) N ≡ walk N next []
-unfolding edges edgeStep edgeRefusal _when_ _then_
-walk-nothing N next = refl
-
-pub walk-stops : (N : Network) (next : ℕ) (s : List ℕ) {t : Step} → t ≡ edgeStep (N .nodes) next s → Tagged (0 ∷ 1 ∷ 3 ∷ 4 ∷ []) t
-    → endedBy (number t) N ≡ walk N next s
-walk-stops N next [] e h = ap (λ x. endedBy (number x) N) e ∙ walk-nothing N next
-walk-stops N next (x ∷ s) {t} e h = go (edge-view (N .nodes) next (x ∷ s))
-  where
-    go : EdgeView (N .nodes) next (x ∷ s) → endedBy (number t) N ≡ walk N next (x ∷ s)
-    go (edge k a b rest step p n l f) = absurd (other-tag (0 ∷ 1 ∷ 3 ∷ 4 ∷ []) t (Step.Edge k a b) h tt (e ∙ step))
-    go (end step p) = ap (λ u. endedBy (number u) N) (e ∙ step) ∙ sym (edges-end (length s) N next (x ∷ s) step)
-    go (EdgeView.refused r step p q) =
-        ap (λ u. endedBy (number u) N) (e ∙ step) ∙ sym (refuse-ended r N p) ∙ sym (edges-refused (length s) N next (x ∷ s) step)
+  pub walk-stops : {t : Step} → t ≡ edgeStep (N .nodes) next s → Tagged (0 ∷ 1 ∷ 3 ∷ 4 ∷ []) t → ifTaken t (λ v. accept N) ≡ walk N next s
+  unfolding ifTaken
+  walk-stops {t} e h = go (edge-view (N .nodes) next s) ∙ sym walk-turn
+    where
+      go : EdgeView (N .nodes) next s → ifTaken t (λ v. accept N) ≡ edges (suc (length s)) N next s
+      go (edge k a b rest step p n l f) = absurd (other-tag (0 ∷ 1 ∷ 3 ∷ 4 ∷ []) t (Step.Edge k a b) h tt (e ∙ step))
+      go (end step p) = rw (e ∙ step) (sym (edges-end (length s) N next s step))
+      go (EdgeView.refused r step p q) = refusal-decides (λ v. accept N) (e ∙ step) p ∙ sym (edges-refused (length s) N next s step p)

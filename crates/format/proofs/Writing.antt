@@ -18,9 +18,9 @@ use Rattle.network.specs.declared.Network.{Network}
 use Rattle.network.specs.Record.{Stored, Slot, slot, rising, slots, slotFault, endFault, absentFault, faultOf, bare, withEdge, hasEdge, firstEnd, secondEnd}
 use Rattle.network.proofs.Refusals.{when-none, or-none}
 use Rattle.network.proofs.Slots.{empty, accepted}
-use Rattle.format.specs.Format.{edges, accept, commandOf, edgeCommand, WrittenTo, encodeOf, decodeOf, afterSize, afterTerminals}
+use Rattle.format.specs.Format.{accept, edges, decodeOf, commandOf, edgeCommand, encodeOf, WrittenTo}
 use Rattle.format.proofs.Steps.{size-taken, terminals-taken, edge-taken, end-taken}
-use Rattle.format.proofs.Walk.{edges-edge, edges-end}
+use Rattle.format.proofs.Walk.{terminals-goes, edges-edge, edges-end}
 use Rattle.format.proofs.Commands.{command-absent}
 
 -- The first k of 64 ends, the others 0.
@@ -190,11 +190,10 @@ module _ (N : Network) (stored : Stored N) (sound : (k : ℕ) → k < 64 → slo
 
 -- Reading what was written gives the same record, for every accepted record.
 pub encode-decode : (N : Network) → Stored N → faultOf N ≡ 0 → decodeOf (encodeOf N) ≡ accept N
-unfolding decodeOf afterSize afterTerminals encodeOf rest
+unfolding encodeOf rest
 encode-decode N stored z =
     let a = accepted N z in
-    ap (λ x. afterSize x (drop 2 (encodeOf N))) (size-taken (N .nodes) _ (a .size))
-    ∙ ap (λ x. afterTerminals (N .nodes) x (rest N 0 64)) (terminals-taken (N .nodes) (N .source) (N .sink) _ (a .terminals))
+    terminals-goes (encodeOf N) refl (size-taken (N .nodes) _ (a .size)) refl (terminals-taken (N .nodes) (N .source) (N .sink) _ (a .terminals))
     ∙ ap (λ x. edges (length (rest N 0 64)) x 0 (rest N 0 64)) (below-none N stored)
     ∙ read-from N stored (a .slot-none) 64 0 0 (length (rest N 0 64)) refl zero-le (le-refl _)
 

@@ -1,13 +1,22 @@
 -- The bytes of a network (the paper's section "Plan and bytes"), read and written. Bytes are shown in hexadecimal, all else in decimal.
 --
+--   at s i                    the byte, or the value, at place i
 --   missing n s, unfit c s    the refusals 1 and 2 of the command at the head of the bytes s
---   sizeStep s, terminalsStep n s, edgeStep n next s     what that command gives: its values, the end, or a refusal
---   stepOf w s                what it gives where w is awaited, and number t the paper's number of the answer t
+--   numberFault next k        the refusals 7 and 8 of an edge's number
+--   sizeRefusal s, terminalsRefusal n s, edgeRefusal n next s, endRefusal s     the first refusal of each command, 0 if it has none
+--   answer r t                the refusal r as an answer, or t if there is none
+--   sizeStep s, terminalsStep n s, edgeStep n next s     a command's answer: its values, the end, or its refusal
+--   stepOf w s                the answer where w is awaited
+--   Told, told t              what the answer t says by the paper: its number, and the command's values
+--   accept N, refuse r        the reader's two answers
+--   ifTaken t goOn            refused by the number of the answer t, or on with its values
 --   edges turns N next s, walk N next s     the edge commands and the end, read into N
 --   decodeOf s                the bytes s read: the refusal's number beside the record
 --   commandOf k s, edgeCommand N k     the bytes of slot k
 --   encodeOf N                the bytes of N
---   encodeRefusal N lent      the writer's refusal, encodedBy N lent its answer, bytesAfter N lent the lent buffer afterwards
+--   encodeRefusal N lent      the writer's refusal
+--   encodeAnswer r n, encodedBy N lent     its answer: the refusal beside the count of bytes
+--   bytesAfter N lent         the lent buffer afterwards
 --   WrittenTo plan lent n buffer       the first n bytes of a plan stand in a lent buffer
 use mathlib.Core.Bool.{cond, not}
 use mathlib.Core.List.{List, [], _∷_, _++_, flatMap}
@@ -24,7 +33,7 @@ use Rattle.format.specs.declared.Step.{Step}
 
 -- ---- a command
 
--- The byte at place i.
+-- The byte, or the value, at place i.
 abbrev pub at : List ℕ → ℕ → ℕ
 at s i = getD s i 0
 
@@ -59,8 +68,7 @@ endRefusal s = 3 when ltb 1 (length s)
 
 -- A command's answer: its refusal if it has one, else what it gives.
 abbrev pub answer : ℕ → Step → Step
-answer zero t = t
-answer (suc r) t = Step.Refused (suc r)
+answer r t = unlessRefused r t (Step.Refused r)
 
 unfoldable pub sizeStep : List ℕ → Step
 sizeStep s = answer (sizeRefusal s) (Step.Size (at s 1))
@@ -81,13 +89,17 @@ stepOf Awaited.Size s = sizeStep s
 stepOf (Awaited.Terminals n) s = terminalsStep n s
 stepOf (Awaited.Edge n next) s = edgeStep n next s
 
--- The number of each case of an answer: that of its refusal, and 0 where the command was taken.
-abbrev pub number : Step → ℕ
-number (Step.Size n) = 0
-number (Step.Terminals a b) = 0
-number (Step.Edge k a b) = 0
-number Step.End = 0
-number (Step.Refused r) = r
+-- What an answer says by the paper: its number, which is 0 if the command was taken, and the command's values in their order.
+pub record Told : Type 0 where
+  pub number : ℕ
+  pub values : List ℕ
+
+abbrev pub told : Step → Told
+told (Step.Size n) = record { number = 0; values = n ∷ [] }
+told (Step.Terminals a b) = record { number = 0; values = a ∷ b ∷ [] }
+told (Step.Edge k a b) = record { number = 0; values = k ∷ a ∷ b ∷ [] }
+told Step.End = record { number = 0; values = [] }
+told (Step.Refused r) = record { number = r; values = [] }
 
 -- ---- reading
 
@@ -97,46 +109,29 @@ accept N = record { refusal = 0; network = N }
 abbrev pub refuse : ℕ → Decoded
 refuse r = record { refusal = r; network = noNetwork }
 
--- The answer where the walk stops, by its number: accepted at the end, else refused.
-abbrev pub endedBy : ℕ → Network → Decoded
-endedBy zero N = accept N
-endedBy (suc r) N = refuse (suc r)
+-- A command that fails decides the refusal, by its number; after one that was taken the reader goes on, with its values.
+unfoldable pub ifTaken : Step → (List ℕ → Decoded) → Decoded
+ifTaken t goOn = unlessRefused (told t .number) (goOn (told t .values)) (refuse (told t .number))
 
--- Each place has its own command. Another's would be unfit, 2: no step gives one, as the views of proofs/Steps show.
-
--- The edge commands and the end, read into N. Each turn takes one command.
+-- The edge commands and the end, read into N. Each turn takes one command, of which the end alone has no values.
 unfoldable pub edges : ℕ → Network → ℕ → List ℕ → Decoded
 edges zero N next s = refuse 1
 edges (suc turns) N next s =
-    elim (edgeStep (N .nodes) next s) [
-      | Step.Size n ↦ refuse 2
-      | Step.Terminals a b ↦ refuse 2
-      | Step.Edge k a b ↦ edges turns (withEdge N k a b) (suc k) (drop 4 s)
-      | Step.End ↦ accept N
-      | Step.Refused r ↦ refuse r
+    ifTaken (edgeStep (N .nodes) next s) λ v. elim v [
+      | [] ↦ accept N
+      | k ∷ ends ↦ edges turns (withEdge N k (at ends 0) (at ends 1)) (suc k) (drop 4 s)
     ]
 
 -- No command is empty, so as many turns as there are bytes suffice.
 abbrev pub walk : Network → ℕ → List ℕ → Decoded
 walk N next s = edges (length s) N next s
 
-unfoldable pub afterTerminals : ℕ → Step → List ℕ → Decoded
-afterTerminals n (Step.Size m) s = refuse 2
-afterTerminals n (Step.Terminals a b) s = walk (bare n a b) 0 s
-afterTerminals n (Step.Edge k a b) s = refuse 2
-afterTerminals n Step.End s = refuse 2
-afterTerminals n (Step.Refused r) s = refuse r
-
-unfoldable pub afterSize : Step → List ℕ → Decoded
-afterSize (Step.Size n) s = afterTerminals n (terminalsStep n s) (drop 3 s)
-afterSize (Step.Terminals a b) s = refuse 2
-afterSize (Step.Edge k a b) s = refuse 2
-afterSize Step.End s = refuse 2
-afterSize (Step.Refused r) s = refuse r
-
--- The commands in their order: 50 with one operand, 53 with two, then the rest. The first that fails decides.
+-- The commands in their order: 50 with one operand, 53 with two, then the rest.
 unfoldable pub decodeOf : List ℕ → Decoded
-decodeOf s = afterSize (sizeStep s) (drop 2 s)
+decodeOf s =
+    ifTaken (sizeStep s) λ size.
+    ifTaken (terminalsStep (at size 0) (drop 2 s)) λ terminals.
+    walk (bare (at size 0) (at terminals 0) (at terminals 1)) 0 (drop 5 s)
 
 -- ---- writing
 
@@ -156,8 +151,7 @@ encodeRefusal N lent = faultOf N then 15 when ltb (length lent) (length (encodeO
 
 -- The writer's answer from its refusal and the count of bytes.
 abbrev pub encodeAnswer : ℕ → ℕ → Encoded
-encodeAnswer zero n = record { refusal = 0; count = n }
-encodeAnswer (suc r) n = record { refusal = suc r; count = 0 }
+encodeAnswer r n = unlessRefused r (record { refusal = 0; count = n }) (record { refusal = r; count = 0 })
 
 unfoldable pub encodedBy : Network → List ℕ → Encoded
 encodedBy N lent = encodeAnswer (encodeRefusal N lent) (length (encodeOf N))

@@ -2,8 +2,8 @@
 -- Assumes nothing.
 use mathlib.Core.Bool.{true, false, not}
 use mathlib.Core.List.{List}
-use mathlib.Core.Path.{_≡_, refl, sym, ap, _∙_}
-use Prim.Native.Nat.{ℕ, zero, suc, _+_, _-_, _≤_, _<_}
+use mathlib.Core.Path.{_≡_, sym, ap, _∙_}
+use Prim.Native.Nat.{ℕ, _+_, _-_, _≤_, _<_}
 use native.Mathlib.Nat.{add-zero}
 use native.Mathlib.Omega.{arith}
 use lib.Dec.{eqb}
@@ -11,7 +11,7 @@ use lib.ListN.{length, getD, drop, length-drop, List·getD-eq-default}
 use lib.Seq.{getD-drop}
 use borrow.Author.Tests.{lt-ltb, le-ltb, eq-eqb, ne-eqb}
 use Rattle.network.specs.Record.{_then_, sizeFault, terminalFault, endFault}
-use Rattle.network.proofs.Refusals.{none-then, some-then, some-when, none-when}
+use Rattle.network.proofs.Refusals.{none-then, some-then, some-when, none-when, refused-some}
 use Rattle.format.specs.declared.Step.{Step}
 use Rattle.format.specs.Format.{at, missing, unfit, numberFault, sizeRefusal, terminalsRefusal, edgeRefusal, endRefusal, answer, sizeStep, terminalsStep, edgeStep}
 use Rattle.format.proofs.Steps.{command, command-values, none-missing, none-unfit}
@@ -49,8 +49,7 @@ module _ (c k : ℕ) (l : List ℕ) (o values : ℕ) where
 
 -- A refusal is the answer, whatever the values would give.
 pub refused : (r : ℕ) (t : Step) → (r ≡ 0 → ⊥) → Step.Refused r ≡ answer r t
-refused zero t d = absurd (d refl)
-refused (suc r) t d = refl
+refused r t d = sym (refused-some r t (Step.Refused r) d)
 
 -- ---- the commands, each way
 

@@ -9,11 +9,11 @@ ghost use mathlib.Core.Path.{_≡_};
 ghost use Prim.Native.Nat.{_<_};
 ghost use lib.ListN.{drop};
 ghost use Rattle.network.specs.Record.{bare, withEdge};
-ghost use Rattle.format.specs.Format.{number, refuse, endedBy, walk, decodeOf};
+ghost use Rattle.format.specs.Format.{told, accept, refuse, ifTaken, walk, decodeOf};
 
 // The paper's number of an answer.
 fn number(step: Step) -> u8
-    ensures { λ r. ⌜ r ≡ number step ⌝ }
+    ensures { λ r. ⌜ r ≡ told step .number ⌝ }
 {
     match step {
         Step::Size(_) => 0,
@@ -65,7 +65,7 @@ fn with_edge(network: Network, edge: u8, first: u8, second: u8) -> Network
 
 // The answer where the walk stops: the network at the end, else the refusal.
 fn ended(step: Step, network: Network) -> Decoded
-    ensures { λ r. ⌜ r ≡ endedBy (number step) network ⌝ }
+    ensures { λ r. ⌜ r ≡ ifTaken step (λ v. accept network) ⌝ }
 {
     let refusal = number(step);
     if refusal != 0 {

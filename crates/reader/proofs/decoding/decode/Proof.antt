@@ -1,10 +1,9 @@
 -- `reader::decode` meets its contract: each command's answer is the definition's, and the first refusal leaves.
 -- Assumes nothing.
-use mathlib.Core.Path.{sym, ap, ap₂, _∙_}
+use mathlib.Core.Path.{sym, ap, _∙_}
 use lib.ListN.{drop}
-use lib.Seq.{drop-drop}
 use Rattle.format.specs.Format.{refuse, walk}
-use Rattle.format.proofs.Walk.{size-goes, size-stops, terminals-goes, terminals-stops}
+use Rattle.format.proofs.Walk.{size-stops, terminals-goes, terminals-stops}
 use borrow.Author.Needs.{needs}
 use Rattle.reader.proofs.decoding.decode.Statement.{statement}
 use Rattle.reader.proofs.decoding.decode.Tie as tie
@@ -44,8 +43,8 @@ returns-2 c =
     let plan = c .before .before .before .before .before .before .before .before .before .args .plan .now in
     let size = c .before .before .before .before .before .size .given in
     c .refused2 .ensures ∙ ap refuse (c .before .number2 .ensures)
-    ∙ terminals-stops (size .0 .0) (drop 2 plan) (c .before .before .before .next-command2 .ensures) (c .before .before .match2 .keys2)
-    ∙ sym (size-goes plan (c .before .before .before .before .before .before .before .next-command .ensures) (size .1))
+    ∙ terminals-stops plan (c .before .before .before .before .before .before .before .next-command .ensures) (size .1)
+    (c .before .before .before .next-command2 .ensures) (c .before .before .match2 .keys2)
 
 bare-network-requires : tie.Need-bare-network-requires
 bare-network-requires c κs = search needs
@@ -57,9 +56,9 @@ returns-3 : tie.Need-returns-3
 returns-3 c =
     let plan = c .before .before .before .before .before .before .before .before .before .before .before .args .plan .now in
     let size = c .before .before .before .before .before .before .before .size .given in
-    c .decode-edges .ensures ∙ ap₂ (λ N s. walk N 0 s) (c .before .bare-network .ensures) (sym (drop-drop 3 2 plan))
-    ∙ sym (terminals-goes (size .0 .0) (drop 2 plan) (c .before .before .before .before .before .next-command2 .ensures) (c .before .before .before .terminals .given .1))
-    ∙ sym (size-goes plan (c .before .before .before .before .before .before .before .before .before .next-command .ensures) (size .1))
+    c .decode-edges .ensures ∙ ap (λ N. walk N 0 (drop 5 plan)) (c .before .bare-network .ensures)
+    ∙ sym (terminals-goes plan (c .before .before .before .before .before .before .before .before .before .next-command .ensures) (size .1)
+    (c .before .before .before .before .before .next-command2 .ensures) (c .before .before .before .terminals .given .1))
 
 pub decode-spec : {M : Type 1} → statement M
 decode-spec =
