@@ -7,7 +7,7 @@ use network::Network;
 ghost use mathlib.Core.Path.{_≡_};
 ghost use Rattle.network.specs.Record.{faultOf};
 ghost use Rattle.widths.specs.Widths.{widthsOf};
-ghost use Rattle.format.specs.Meaning.{WrittenMeans};
+ghost use Rattle.format.specs.Meaning.{ReadMeans, WrittenMeans};
 ghost use Rattle.reach.specs.Answers.{PartMeans};
 ghost use Rattle.listing.specs.List.{ListMeans};
 ghost use Rattle.capi.specs.Fields.{assembled, Read, Written, Found, Judged, JudgedMeans, Listing};
@@ -24,6 +24,8 @@ pub extern "C" fn cutlist_decode(
     second: &mut [u8; 64],
 ) -> u8
     ensures { λ r. ⌜ Read (now (plan .entry)) r
+        (assembled (now (nodes .exit)) (now (source .exit)) (now (sink .exit)) (now (present .exit)) (now (first .exit)) (now (second .exit))) ⌝ }
+    ensures means { λ r. ⌜ ReadMeans (now (plan .entry)) r
         (assembled (now (nodes .exit)) (now (source .exit)) (now (sink .exit)) (now (present .exit)) (now (first .exit)) (now (second .exit))) ⌝ }
 {
     let decoded = reader::decode(plan);

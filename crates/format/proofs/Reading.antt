@@ -11,9 +11,11 @@ use lib.ListN.{length, drop, getD-replicate}
 use Rattle.bitset.proofs.Members.{has-zero}
 use Rattle.network.specs.declared.Network.{Network}
 use Rattle.network.specs.Record.{Stored, Slot, slot, rising, slotFault, endFault, absentFault, faultOf, bare, withEdge, hasEdge, firstEnd, secondEnd, noNetwork}
+use Rattle.network.proofs.Rules.{fault-rules}
 use Rattle.network.proofs.Slots.{empty, slotFault-of, withEdge-same, withEdge-other, withEdge-stored, accepted-none}
 use Rattle.format.specs.declared.Decoded.{Decoded}
 use Rattle.format.specs.Format.{accept, refuse, edges, decodeOf, edgeCommand, encodeOf}
+use Rattle.format.specs.Meaning.{ReadMeans}
 use Rattle.format.proofs.Steps.{EdgeView, edge, end, edge-view}
 use Rattle.format.proofs.Walk.{HeaderView, header, header-view, edges-edge, edges-end, edges-refused}
 use Rattle.format.proofs.Commands.{command-of, commands-skip}
@@ -194,3 +196,16 @@ decode-answer s = go (header-view s)
     go : HeaderView s → Answer (decodeOf s)
     go (header n a b rest on p f g) = subst Answer (sym on) (edges-answer (length rest) (bare n a b) 0 rest)
     go (HeaderView.refused r e p b) = subst Answer (sym e) (refuse-answer r b)
+
+-- ---- what the answer means
+
+-- Beside the answer stands what it means.
+pub read-means : (s : List ℕ) {d : Decoded} → d ≡ decodeOf s → (d ≡ decodeOf s) × ReadMeans s (d .refusal) (d .network)
+read-means s e = (e, rw e (go (ℕ-discrete (decodeOf s .refusal) 0)))
+  where
+    go : Dec (decodeOf s .refusal ≡ 0) → ReadMeans s (decodeOf s .refusal) (decodeOf s .network)
+    go (yes none) =
+        let plan = decode-plan s (decodeOf s .network) (accepts s none) in
+        record { stored = plan .stored; rules = λ z. fault-rules (decodeOf s .network) .0 (plan .accepted); bytes = λ z. plan .bytes }
+    go (no some) =
+        record { stored = rw (decode-answer s .zeroed some) (bare-stored 0 0 0); rules = λ z. absurd (some z); bytes = λ z. absurd (some z) }

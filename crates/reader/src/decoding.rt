@@ -10,6 +10,7 @@ ghost use Prim.Native.Nat.{_<_};
 ghost use lib.ListN.{drop};
 ghost use Rattle.network.specs.Record.{bare, withEdge};
 ghost use Rattle.format.specs.Format.{told, accept, refuse, ifTaken, walk, decodeOf};
+ghost use Rattle.format.specs.Meaning.{ReadMeans};
 
 // The paper's number of an answer.
 fn number(step: Step) -> u8
@@ -98,6 +99,7 @@ fn decode_edges(plan: &[u8], from: usize, bare: Network) -> Decoded
 // The reader: the first command that fails decides.
 pub fn decode(plan: &[u8]) -> Decoded
     ensures { λ r. ⌜ r ≡ decodeOf (now (plan .entry)) ⌝ }
+    ensures means { λ r. ⌜ ReadMeans (now (plan .entry)) (r .refusal) (r .network) ⌝ }
 {
     let size = next_command(plan, 0, Awaited::Size);
     let Step::Size(nodes) = size else {

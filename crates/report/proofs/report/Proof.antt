@@ -18,7 +18,7 @@ returns : tie.Need-returns
 returns c = record {
   printed = λ s e.
       let read = c .before .before .before .before in
-      rw (report-whole s (read .before .first .ensures) (read .before .before .first-arg .given .0) e, report-unread _ _ (read .decode .ensures) (c .before .before .if1 .taken))
+      rw (report-whole s (read .before .first .ensures) (read .before .before .first-arg .given .0) e, report-unread _ _ (read .decode .ensures .0) (c .before .before .if1 .taken))
       (c .put-refusal .ensures);
 }
 
@@ -40,7 +40,7 @@ returns-2 c = record {
       let call = c .before .before .before .before .before .before in
       let read = call .before .before .before .before .before in
       let listed = call .list .ensures .0 in
-      rw (report-whole s (read .before .first .ensures) (read .before .before .first-arg .given .0) e, report-refused _ _ (read .decode .ensures) (call .before .before .before .if1 .left) _ _ lent-rows lent-rows _ (listed .0) (c .before .before .if2 .taken))
+      rw (report-whole s (read .before .first .ensures) (read .before .before .first-arg .given .0) e, report-refused _ _ (read .decode .ensures .0) (call .before .before .before .if1 .left) _ _ lent-rows lent-rows _ (listed .0) (c .before .before .if2 .taken))
       (c .put-refusal2 .ensures);
 }
 
@@ -53,7 +53,7 @@ returns-3 c = record {
       let call = c .before .before .before .before .before .before .before .before in
       let read = call .before .before .before .before .before in
       let listed = call .list .ensures .0 in
-      rw (report-whole s (read .before .first .ensures) (read .before .before .first-arg .given .0) e, report-listed _ _ (read .decode .ensures) (call .before .before .before .if1 .left) _ _ lent-rows lent-rows _ (listed .0) (listed .1) (listed .2) (c .before .before .before .before .if2 .left))
+      rw (report-whole s (read .before .first .ensures) (read .before .before .first-arg .given .0) e, report-listed _ _ (read .decode .ensures .0) (call .before .before .before .if1 .left) _ _ lent-rows lent-rows _ (listed .0) (listed .1) (listed .2) (c .before .before .before .before .if2 .left))
       (c .put-list .ensures);
 }
 

@@ -3,6 +3,7 @@
 use mathlib.Core.Path.{sym, ap, _∙_}
 use lib.ListN.{drop}
 use Rattle.format.specs.Format.{refuse, walk}
+use Rattle.format.proofs.Reading.{read-means}
 use Rattle.format.proofs.Walk.{size-stops, terminals-goes, terminals-stops}
 use borrow.Author.Needs.{needs}
 use Rattle.reader.proofs.decoding.decode.Statement.{statement}
@@ -23,8 +24,8 @@ refused-requires c κs = search needs
 returns : tie.Need-returns
 returns c =
     let plan = c .before .before .before .before .before .args .plan .now in
-    c .refused .ensures ∙ ap refuse (c .before .number .ensures)
-    ∙ size-stops plan (c .before .before .before .next-command .ensures) (c .before .before .match .keys2)
+    read-means plan (c .refused .ensures ∙ ap refuse (c .before .number .ensures)
+    ∙ size-stops plan (c .before .before .before .next-command .ensures) (c .before .before .match .keys2))
 
 next-command-requires-2 : tie.Need-next-command-requires-2
 next-command-requires-2 c κs = search needs
@@ -42,9 +43,9 @@ returns-2 : tie.Need-returns-2
 returns-2 c =
     let plan = c .before .before .before .before .before .before .before .before .before .args .plan .now in
     let size = c .before .before .before .before .before .size .given in
-    c .refused2 .ensures ∙ ap refuse (c .before .number2 .ensures)
+    read-means plan (c .refused2 .ensures ∙ ap refuse (c .before .number2 .ensures)
     ∙ terminals-stops plan (c .before .before .before .before .before .before .before .next-command .ensures) (size .1)
-    (c .before .before .before .next-command2 .ensures) (c .before .before .match2 .keys2)
+    (c .before .before .before .next-command2 .ensures) (c .before .before .match2 .keys2))
 
 bare-network-requires : tie.Need-bare-network-requires
 bare-network-requires c κs = search needs
@@ -56,9 +57,9 @@ returns-3 : tie.Need-returns-3
 returns-3 c =
     let plan = c .before .before .before .before .before .before .before .before .before .before .before .args .plan .now in
     let size = c .before .before .before .before .before .before .before .size .given in
-    c .decode-edges .ensures ∙ ap (λ N. walk N 0 (drop 5 plan)) (c .before .bare-network .ensures)
+    read-means plan (c .decode-edges .ensures ∙ ap (λ N. walk N 0 (drop 5 plan)) (c .before .bare-network .ensures)
     ∙ sym (terminals-goes plan (c .before .before .before .before .before .before .before .before .before .next-command .ensures) (size .1)
-    (c .before .before .before .before .before .next-command2 .ensures) (c .before .before .before .terminals .given .1))
+    (c .before .before .before .before .before .next-command2 .ensures) (c .before .before .before .terminals .given .1)))
 
 pub decode-spec : {M : Type 1} → statement M
 decode-spec =
