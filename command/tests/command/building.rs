@@ -167,7 +167,7 @@ fn a_change_of_the_proved_sources_builds_everything() {
     copy.builds(&EVERYTHING);
     for name in [
         "crates/list/src/main.rt",
-        "crates/list/specs/Report.antt",
+        "crates/report/specs/Report.antt",
         "crates.txt",
     ] {
         change_in_secret(&copy.at(name));
