@@ -15,7 +15,7 @@
 --   commandOf k s, edgeCommand N k     the bytes of slot k
 --   encodeOf N                the bytes of N
 --   encodeRefusal N lent      the writer's refusal
---   encodeAnswer r n, encodedBy N lent     its answer: the refusal beside the count of bytes
+--   encodedBy N lent          its answer: the refusal beside the count of bytes
 --   bytesAfter N lent         the lent buffer afterwards
 --   WrittenTo plan lent n buffer       the first n bytes of a plan stand in a lent buffer
 use mathlib.Core.Bool.{cond, not}
@@ -149,12 +149,8 @@ encodeOf N = 0x50 ∷ N .nodes ∷ 0x53 ∷ N .source ∷ N .sink ∷ (flatMap (
 unfoldable pub encodeRefusal : Network → List ℕ → ℕ
 encodeRefusal N lent = faultOf N then 15 when ltb (length lent) (length (encodeOf N))
 
--- The writer's answer from its refusal and the count of bytes.
-abbrev pub encodeAnswer : ℕ → ℕ → Encoded
-encodeAnswer r n = unlessRefused r (record { refusal = 0; count = n }) (record { refusal = r; count = 0 })
-
 unfoldable pub encodedBy : Network → List ℕ → Encoded
-encodedBy N lent = encodeAnswer (encodeRefusal N lent) (length (encodeOf N))
+encodedBy N lent = let r = encodeRefusal N lent in record { refusal = r; count = unlessRefused r (length (encodeOf N)) 0 }
 
 -- The bytes of N, and past them what the buffer held; on refusal all that it held.
 unfoldable pub bytesAfter : Network → List ℕ → List ℕ

@@ -8,12 +8,13 @@ use borrow.Rule.Slice.PartMut.{putMid}
 use lib.ListN.{length, take, length-map}
 use lib.Seq.{sets}
 use Rattle.network.specs.declared.Network.{Network}
-use Rattle.network.specs.Record.{unlessRefused, faultOf, Stored}
+use Rattle.network.specs.Record.{faultOf, Stored}
+use Rattle.network.proofs.Refusals.{refused-some}
 use Rattle.listing.specs.Sorted.{Sorted}
 use Rattle.graph.proofs.Sound.{Sound, accepted-sound}
 use Rattle.cuts.specs.Enumeration.{Row, cutsOf, sidesOf, rows}
 use Rattle.listing.specs.declared.Listed.{Listed}
-use Rattle.listing.specs.List.{mincuts, sourceSides, onto, listRefusal, listAnswer, listedBy, cutRowsAfter, sideRowsAfter}
+use Rattle.listing.specs.List.{mincuts, sourceSides, onto, listRefusal, listedBy, cutRowsAfter, sideRowsAfter}
 use Rattle.listing.proofs.Rows.{rows-paired, mincuts-count, sorted-mincuts, sorted-sides}
 use Rattle.listing.proofs.Onto.{onto-first, onto-back}
 use Rattle.listing.proofs.Refusals.{refusal-faulty, refusal-unpaired, refusal-outnumbered, refusal-none}
@@ -23,37 +24,24 @@ abbrev pub Answered : Network → List ℕ → List ℕ → Listed → List ℕ 
 Answered N cuts sides r cuts′ sides′ =
     (r ≡ listedBy N cuts sides) × (cuts′ ≡ cutRowsAfter N cuts sides) × (sides′ ≡ sideRowsAfter N cuts sides)
 
--- The answer and the rows left, by the refusal.
-answered-by : (N : Network) (cuts sides : List ℕ) (r : ℕ) → listRefusal N cuts sides ≡ r
-    → Answered N cuts sides (listAnswer r (length (mincuts N)))
-    (unlessRefused r (onto (mincuts N) cuts) cuts)
-    (unlessRefused r (onto (sourceSides N) sides) sides)
-unfolding listedBy cutRowsAfter sideRowsAfter
-answered-by N cuts sides r e = (
-  ap (λ (x : ℕ). listAnswer x (length (mincuts N))) (sym e),
-  ap (λ (x : ℕ). unlessRefused x (onto (mincuts N) cuts) cuts) (sym e),
-  ap (λ (x : ℕ). unlessRefused x (onto (sourceSides N) sides) sides) (sym e),
-)
-
 -- A refusal leaves the rows as they were.
-refused : (N : Network) (cuts sides : List ℕ) (r : ℕ) → listRefusal N cuts sides ≡ r → 0 < r
+refused : (N : Network) (cuts sides : List ℕ) (r : ℕ) → listRefusal N cuts sides ≡ r → (r ≡ 0 → ⊥)
     → Answered N cuts sides (record { refusal = r; count = 0 }) cuts sides
-refused N cuts sides zero e h = absurd (omega arith)
-refused N cuts sides (suc r) e h = answered-by N cuts sides (suc r) e
+unfolding listedBy cutRowsAfter sideRowsAfter
+refused N cuts sides r e some =
+    rw (e, refused-some r (length (mincuts N)) 0 some, refused-some r (onto (mincuts N) cuts) cuts some, refused-some r (onto (sourceSides N) sides) sides some)
+    (refl, refl, refl)
 
 -- Otherwise the complete list is written onto the rows.
 completed : (N : Network) (cuts sides : List ℕ) → listRefusal N cuts sides ≡ 0
     → Answered N cuts sides (record { refusal = 0; count = length (mincuts N) }) (onto (mincuts N) cuts) (onto (sourceSides N) sides)
-completed N cuts sides e = answered-by N cuts sides 0 e
+unfolding listedBy cutRowsAfter sideRowsAfter
+completed N cuts sides e = rw e (refl, refl, refl)
 
 -- The answer's refusal is the call's.
 pub answer-refusal : (N : Network) (cuts sides : List ℕ) → listedBy N cuts sides .refusal ≡ listRefusal N cuts sides
 unfolding listedBy
-answer-refusal N cuts sides = go (listRefusal N cuts sides)
-  where
-    go : (r : ℕ) → listAnswer r (length (mincuts N)) .refusal ≡ r
-    go zero = refl
-    go (suc r) = refl
+answer-refusal N cuts sides = refl
 
 -- A call that gave the refusal 0 was made on a sound network, and has written the complete list onto the rows.
 pub complete-call : (N : Network) → Stored N → (cuts sides : List ℕ) → listedBy N cuts sides .refusal ≡ 0
@@ -68,11 +56,11 @@ complete-call N stored cuts sides e =
 module _ (N : Network) (cuts sides : List ℕ) where
   -- A record with a fault is refused with it.
   pub answered-faulty : (r : ℕ) → r ≡ faultOf N → (r ≡ 0 → ⊥) → Answered N cuts sides (record { refusal = r; count = 0 }) cuts sides
-  answered-faulty r e n = refused N cuts sides r (refusal-faulty N cuts sides (λ z. n (e ∙ z)) ∙ sym e) (omega arith)
+  answered-faulty r e n = refused N cuts sides r (refusal-faulty N cuts sides (λ z. n (e ∙ z)) ∙ sym e) n
 
   -- Rows that differ in number are refused with 11.
   pub answered-unpaired : faultOf N ≡ 0 → (length cuts ≡ length sides → ⊥) → Answered N cuts sides (record { refusal = 11; count = 0 }) cuts sides
-  answered-unpaired ok differ = refused N cuts sides 11 (refusal-unpaired N cuts sides .1 (ok, differ)) (omega arith)
+  answered-unpaired ok differ = refused N cuts sides 11 (refusal-unpaired N cuts sides .1 (ok, differ)) (λ e. omega arith)
 
   module _ (stored : Stored N) (ok : faultOf N ≡ 0) (paired : length cuts ≡ length sides) where
     -- The network is sound.
@@ -81,7 +69,7 @@ module _ (N : Network) (cuts sides : List ℕ) where
 
     -- Fewer rows than the enumeration has are refused with 12.
     pub answered-outnumbered : length cuts < length (rows N) → Answered N cuts sides (record { refusal = 12; count = 0 }) cuts sides
-    answered-outnumbered h = refused N cuts sides 12 (refusal-outnumbered N cuts sides .1 (ok, paired, rw (mincuts-count N sound) h)) (omega arith)
+    answered-outnumbered h = refused N cuts sides 12 (refusal-outnumbered N cuts sides .1 (ok, paired, rw (mincuts-count N sound) h)) (λ e. omega arith)
 
     -- Otherwise the rows of the enumeration are stored from the first row on, and the first n are sorted in place.
     pub answered-complete : (n : ℕ) → n ≡ length (rows N) → n ≤ length cuts

@@ -12,7 +12,7 @@ use mathlib.Core.Bool.{Bool, true, false, not}
 use mathlib.Core.List.{List, [], _∷_, _++_, map}
 use mathlib.Core.Logic.{_↔_}
 use mathlib.Core.Path.{_≡_}
-use Prim.Native.Nat.{ℕ, zero, suc}
+use Prim.Native.Nat.{ℕ}
 use lib.Dec.{ltb, eqb}
 use lib.ListN.{length, drop}
 use Rattle.bitset.specs.Members.{subsets}
@@ -47,13 +47,8 @@ listRefusal N cuts sides =
     then 11 when not (eqb (length cuts) (length sides))
     then 12 when ltb (length cuts) (length (mincuts N))
 
--- The answer from the refusal and the count of rows.
-abbrev pub listAnswer : ℕ → ℕ → Listed
-listAnswer zero n = record { refusal = 0; count = n }
-listAnswer (suc r) n = record { refusal = suc r; count = 0 }
-
 unfoldable pub listedBy : Network → List ℕ → List ℕ → Listed
-listedBy N cuts sides = listAnswer (listRefusal N cuts sides) (length (mincuts N))
+listedBy N cuts sides = let r = listRefusal N cuts sides in record { refusal = r; count = unlessRefused r (length (mincuts N)) 0 }
 
 -- The complete list, and past it what the rows held; on refusal all that they held.
 unfoldable pub cutRowsAfter : Network → List ℕ → List ℕ → List ℕ

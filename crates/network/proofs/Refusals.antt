@@ -38,7 +38,10 @@ pub some-when : (r : ℕ) {b : Bool} → b ≡ true → (r when b) ≡ r
 unfolding _when_
 some-when r e = ap (λ b. r when b) e
 
--- A refusal decides.
+-- Without a refusal a call gives the one, with a refusal the other.
+pub refused-none : {A : Type 0} {r : ℕ} (a b : A) → r ≡ 0 → unlessRefused r a b ≡ a
+refused-none a b e = ap (λ r. unlessRefused r a b) e
+
 pub refused-some : {A : Type 0} (r : ℕ) (a b : A) → (r ≡ 0 → ⊥) → unlessRefused r a b ≡ b
 refused-some zero a b d = absurd (d refl)
 refused-some (suc r) a b d = refl

@@ -16,8 +16,8 @@ use Rattle.bitset.proofs.Tests.{T-not, T-then}
 use Rattle.bitset.proofs.Sets.{member-lt}
 use Rattle.bitset.proofs.MemberList.{in-members}
 use Rattle.network.specs.declared.Network.{Network}
-use Rattle.network.specs.Record.{_when_, faultOf, Stored}
-use Rattle.network.proofs.Refusals.{then-none, none-then, some-then, when-none, none-when, some-when}
+use Rattle.network.specs.Record.{_when_, unlessRefused, faultOf, Stored}
+use Rattle.network.proofs.Refusals.{then-none, none-then, some-then, when-none, none-when, some-when, refused-some}
 use Rattle.graph.specs.Reach.{Bounded}
 use Rattle.graph.specs.Cuts.{Cut, Mincut}
 use Rattle.graph.specs.CutTests.{severed, cutTest, allNeeded, mincutTest}
@@ -29,38 +29,29 @@ use Rattle.graph.proofs.Relevant.{in-relevantNodes, in-relevantEdges}
 use Rattle.reach.specs.declared.RelevantPart.{RelevantPart}
 use Rattle.reach.specs.declared.Verdict.{Verdict}
 use Rattle.reach.specs.declared.Verdict.the-variants.{NotCut, NotMinimal, Minimal, Refused}
-use Rattle.reach.specs.Answers.{partFrom, partBeside, relevantOf, PartMeans, judgeFault, verdictOn, verdictBeside, verdictOf, Says, VerdictMeans}
+use Rattle.reach.specs.Answers.{partFrom, relevantOf, PartMeans, judgeFault, verdictOn, verdictOf, Says, VerdictMeans}
 
 -- ---- the relevant part
 
 -- Beside a refusal both sets are empty.
 pub part-refused : (N : Network) (r n e : ℕ) → r ≡ faultOf N → (r ≡ 0 → ⊥) → n ≡ 0 → e ≡ 0 → partFrom r n e ≡ relevantOf N
-unfolding partBeside
-part-refused N r n e fault some q s = rw (← fault, q, s) (go r some)
-  where
-    go : (r : ℕ) → (r ≡ 0 → ⊥) → partFrom r 0 0 ≡ partBeside N r
-    go zero some = absurd (some refl)
-    go (suc r) some = refl
+unfolding relevantOf
+part-refused N r n e fault some q s = rw (← fault, q, s, refused-some r (relevantNodes N) 0 some, refused-some r (relevantEdges N) 0 some)
 
 -- Without a refusal they are the relevant nodes and edges.
 pub part-accepted : (N : Network) (n e : ℕ) → faultOf N ≡ 0 → n ≡ relevantNodes N → e ≡ relevantEdges N → partFrom 0 n e ≡ relevantOf N
-unfolding partBeside
+unfolding relevantOf
 part-accepted N n e ok q s = rw (ok, q, s)
 
 -- The refusal beside the relevant part is the record's first fault.
 pub part-refusal : (N : Network) (p : RelevantPart) → p ≡ relevantOf N → p .refusal ≡ faultOf N
-unfolding partBeside
-part-refusal N p e = ap (λ (q : RelevantPart). q .refusal) e ∙ go (faultOf N)
-  where
-    go : (r : ℕ) → partBeside N r .refusal ≡ r
-    go zero = refl
-    go (suc r) = refl
+unfolding relevantOf
+part-refusal N p e = ap (λ (q : RelevantPart). q .refusal) e
 
 -- Without a refusal the two sets are the relevant ones.
 module _ (N : Network) (p : RelevantPart) (e : p ≡ relevantOf N) (none : p .refusal ≡ 0) where
   part-whole : p ≡ partFrom 0 (relevantNodes N) (relevantEdges N)
-  unfolding partBeside
-  part-whole = e ∙ ap (partBeside N) (sym (part-refusal N p e) ∙ none)
+  part-whole = e ∙ sym (part-accepted N (relevantNodes N) (relevantEdges N) (sym (part-refusal N p e) ∙ none) refl refl)
 
   pub part-nodes : p .nodes .0 ≡ relevantNodes N
   part-nodes = ap (λ (q : RelevantPart). q .nodes .0) part-whole
@@ -126,16 +117,12 @@ module _ (N : Network) (c : ℕ) where
 
   -- The verdict beside a refusal is the refusal.
   pub verdict-refused : (r : ℕ) → judgeFault N c ≡ r → (r ≡ 0 → ⊥) → Refused r ≡ verdictOf N c
-  unfolding verdictBeside
-  verdict-refused r fault some = rw fault (go r some)
-    where
-      go : (r : ℕ) → (r ≡ 0 → ⊥) → Refused r ≡ verdictBeside N c r
-      go zero some = absurd (some refl)
-      go (suc r) some = refl
+  unfolding verdictOf
+  verdict-refused r fault some = rw fault (sym (refused-some r (verdictOn N c) (Refused r) some))
 
   -- Without a refusal it is the verdict on the set.
   verdict-judged : judgeFault N c ≡ 0 → verdictOf N c ≡ verdictOn N c
-  unfolding verdictBeside
+  unfolding verdictOf
   verdict-judged none = rw none
 
   module _ (ok : faultOf N ≡ 0) (within : c ⊆ N .present .0) where
@@ -182,10 +169,10 @@ on-right N B c within = go (severed N c) refl (allNeeded N c) refl
 module _ (N : Network) (stored : Stored N) (c : ℕ) where
   -- What the verdict says holds, whatever the record and the set.
   pub verdict-right : Says N c (verdictOf N c)
-  unfolding verdictBeside
+  unfolding verdictOf
   verdict-right = go (judgeFault N c) refl
     where
-      go : (r : ℕ) → judgeFault N c ≡ r → Says N c (verdictBeside N c r)
+      go : (r : ℕ) → judgeFault N c ≡ r → Says N c (unlessRefused r (verdictOn N c) (Refused r))
       go zero e = let p = judge-ok N c e in on-right N (accepted-sound N stored (p .0) .bounded) c (p .1)
       go (suc r) e = (e, zero-lt-suc r)
 

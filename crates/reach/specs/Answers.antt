@@ -11,12 +11,12 @@
 use mathlib.Core.Bool.{true, false, not}
 use mathlib.Core.Logic.{_↔_}
 use mathlib.Core.Path.{_≡_}
-use Prim.Native.Nat.{ℕ, zero, suc, _<_}
+use Prim.Native.Nat.{ℕ, _<_}
 use lib.Bits.{bitAnd}
 use lib.Dec.{eqb}
 use Rattle.bitset.specs.Members.{_∈_}
 use Rattle.network.specs.declared.Network.{Network}
-use Rattle.network.specs.Record.{_when_, _then_, faultOf, Stored}
+use Rattle.network.specs.Record.{_when_, _then_, unlessRefused, faultOf, Stored}
 use Rattle.graph.specs.Cuts.{Cut, Mincut, RelevantEdge, RelevantNode}
 use Rattle.graph.specs.CutTests.{severed, allNeeded}
 use Rattle.graph.specs.Relevant.{relevantNodes, relevantEdges}
@@ -29,13 +29,8 @@ use Rattle.reach.specs.declared.Verdict.the-variants.{NotCut, NotMinimal
 abbrev pub partFrom : ℕ → ℕ → ℕ → RelevantPart
 partFrom r n e = record { refusal = r; nodes = record { 0 = n }; edges = record { 0 = e } }
 
--- The answer beside the refusal r.
-unfoldable pub partBeside : Network → ℕ → RelevantPart
-partBeside N zero = partFrom 0 (relevantNodes N) (relevantEdges N)
-partBeside N (suc r) = partFrom (suc r) 0 0
-
-abbrev pub relevantOf : Network → RelevantPart
-relevantOf N = partBeside N (faultOf N)
+unfoldable pub relevantOf : Network → RelevantPart
+relevantOf N = let r = faultOf N in partFrom r (unlessRefused r (relevantNodes N) 0) (unlessRefused r (relevantEdges N) 0)
 
 -- By the definitions of graph theory: beside the refusal 0 the members are exactly the relevant nodes and edges.
 pub record PartMeans (N : Network) (r n e : ℕ) : Type 0 where
@@ -56,13 +51,8 @@ verdictOn N c =
       | false ↦ NotCut
     ]
 
--- The answer beside the refusal r.
-unfoldable pub verdictBeside : Network → ℕ → ℕ → Verdict
-verdictBeside N c zero = verdictOn N c
-verdictBeside N c (suc r) = Refused (suc r)
-
-abbrev pub verdictOf : Network → ℕ → Verdict
-verdictOf N c = verdictBeside N c (judgeFault N c)
+unfoldable pub verdictOf : Network → ℕ → Verdict
+verdictOf N c = let r = judgeFault N c in unlessRefused r (verdictOn N c) (Refused r)
 
 -- A verdict by the definitions of graph theory.
 abbrev pub Says : Network → ℕ → Verdict → Type 0

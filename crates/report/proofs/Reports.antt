@@ -10,6 +10,7 @@ use lib.ListN.{length, take, replicate, length-map, length-replicate, length-tak
 use lib.Seq.{take-at, take-all}
 use Rattle.network.specs.declared.Network.{Network}
 use Rattle.network.specs.Record.{unlessRefused, faultOf}
+use Rattle.network.proofs.Refusals.{refused-none, refused-some}
 use Rattle.format.specs.declared.Decoded.{Decoded}
 use Rattle.format.specs.Format.{decodeOf}
 use Rattle.format.proofs.Reading.{decode-plan}
@@ -18,9 +19,9 @@ use Rattle.text.specs.Text.{refusalLine, listText, maxRows}
 use Rattle.text.specs.Written.{Printed}
 use Rattle.graph.specs.Relevant.{sourceSideOf}
 use Rattle.listing.specs.declared.Listed.{Listed}
-use Rattle.listing.specs.List.{mincuts, sourceSides, onto, listRefusal, listAnswer, listedBy, cutRowsAfter, sideRowsAfter}
+use Rattle.listing.specs.List.{mincuts, sourceSides, onto, listRefusal, listedBy, cutRowsAfter, sideRowsAfter}
 use Rattle.listing.proofs.Refusals.{refusal-outnumbered, refusal-none}
-use Rattle.report.specs.Report.{listReport, reportBy, reportOf, Reported}
+use Rattle.report.specs.Report.{listReport, reportOf, Reported}
 
 -- ---- the list call
 
@@ -49,9 +50,10 @@ module _ (N : Network) (cuts sides : List ℕ) where
       go (no h) = complete (refusal-none N cuts sides .1 (ok, omega arith, omega arith)) (report-complete N (omega arith))
 
   -- The answer, by the refusal.
-  answer-by : {r : ℕ} {l : Listed} → l ≡ listedBy N cuts sides → listRefusal N cuts sides ≡ r → l ≡ listAnswer r (length (mincuts N))
+  answer-by : {r : ℕ} {l : Listed} → l ≡ listedBy N cuts sides → listRefusal N cuts sides ≡ r
+      → l ≡ record { refusal = r; count = unlessRefused r (length (mincuts N)) 0 }
   unfolding listedBy
-  answer-by e q = e ∙ ap (λ (x : ℕ). listAnswer x (length (mincuts N))) q
+  answer-by e q = e ∙ ap (λ (x : ℕ). record { refusal = x; count = unlessRefused x (length (mincuts N)) 0 }) q
 
   module _ (l : Listed) (answer : l ≡ listedBy N cuts sides) where
     -- A refusal is reported by its number.
@@ -79,17 +81,13 @@ lent-rows = length-replicate {A = ℕ} maxRows 0
 
 module _ (s : List ℕ) (d : Decoded) (read : d ≡ decodeOf s) where
   -- The report of the bytes is that of the answer.
-  report-by : reportOf s ≡ reportBy (d .refusal) (d .network)
+  report-by : reportOf s ≡ unlessRefused (d .refusal) (listReport (d .network)) (refusalLine (d .refusal))
   unfolding reportOf
   report-by = rw read
 
   -- A plan that is refused is reported by its refusal.
   pub report-unread : (d .refusal ≡ 0 → ⊥) → reportOf s ≡ refusalLine (d .refusal)
-  report-unread f = report-by ∙ go (d .refusal) f
-    where
-      go : (r : ℕ) → (r ≡ 0 → ⊥) → reportBy r (d .network) ≡ refusalLine r
-      go zero f = absurd (f refl)
-      go (suc r) f = refl
+  report-unread some = report-by ∙ refused-some (d .refusal) (listReport (d .network)) (refusalLine (d .refusal)) some
 
   module _ (none : d .refusal ≡ 0) (cuts sides : List ℕ) (c : length cuts ≡ maxRows) (t : length sides ≡ maxRows)
       (l : Listed) (answer : l ≡ listedBy (d .network) cuts sides) where
@@ -99,7 +97,7 @@ module _ (s : List ℕ) (d : Decoded) (read : d ≡ decodeOf s) where
 
     -- Its report is that of the bytes.
     report-network : reportOf s ≡ listReport (d .network)
-    report-network = report-by ∙ ap (λ (r : ℕ). reportBy r (d .network)) none
+    report-network = report-by ∙ refused-none (listReport (d .network)) (refusalLine (d .refusal)) none
 
     -- A network that is refused is reported by its refusal.
     pub report-refused : (l .refusal ≡ 0 → ⊥) → reportOf s ≡ refusalLine (l .refusal)

@@ -7,10 +7,11 @@
 use mathlib.Core.Path.{_≡_}
 use mathlib.Core.Bool.{true, false}
 use mathlib.Core.List.{List}
-use Prim.Native.Nat.{ℕ, zero, suc}
+use Prim.Native.Nat.{ℕ}
 use lib.Dec.{ltb}
 use lib.ListN.{length, take}
 use Rattle.network.specs.declared.Network.{Network}
+use Rattle.network.specs.Record.{unlessRefused}
 use Rattle.format.specs.Format.{decodeOf}
 use Rattle.text.specs.Text.{refusalLine, listText, maxRows}
 use Rattle.text.specs.Written.{Printed}
@@ -20,13 +21,8 @@ unfoldable pub listReport : Network → List ℕ
 listReport N =
     elim (ltb maxRows (length (mincuts N))) [ true ↦ refusalLine 12 | false ↦ listText (mincuts N) (sourceSides N) ]
 
--- By the reader's refusal, 0 if there is none.
-abbrev pub reportBy : ℕ → Network → List ℕ
-reportBy zero N = listReport N
-reportBy (suc r) N = refusalLine (suc r)
-
 unfoldable pub reportOf : List ℕ → List ℕ
-reportOf s = reportBy (decodeOf s .refusal) (decodeOf s .network)
+reportOf s = let d = decodeOf s in unlessRefused (d .refusal) (listReport (d .network)) (refusalLine (d .refusal))
 
 pub record Reported (plan : List ℕ) (read : ℕ) (b a : List ℕ) (r : ℕ) : Type 0 where
   pub printed : (s : List ℕ) → take read plan ≡ take (length plan) s → Printed (reportOf s) b a r

@@ -7,10 +7,10 @@ use native.Mathlib.Omega.{arith}
 use lib.ListN.{length, take, drop, set, length-drop}
 use lib.Seq.{sets, take-at, take-length, drop-drop, drop-at, length-take-le, length-sets}
 use Rattle.network.specs.declared.Network.{Network}
-use Rattle.network.specs.Record.{unlessRefused, faultOf, Stored}
-use Rattle.network.proofs.Refusals.{then-none}
+use Rattle.network.specs.Record.{faultOf, Stored}
+use Rattle.network.proofs.Refusals.{then-none, refused-some}
 use Rattle.format.specs.declared.Encoded.{Encoded}
-use Rattle.format.specs.Format.{accept, decodeOf, encodeOf, encodeRefusal, encodeAnswer, encodedBy, bytesAfter, WrittenTo}
+use Rattle.format.specs.Format.{accept, decodeOf, encodeOf, encodeRefusal, encodedBy, bytesAfter, WrittenTo}
 use Rattle.format.specs.Meaning.{WrittenMeans}
 use Rattle.format.proofs.Writing.{encode-decode, rest, rest-all, written-length, written-next, next-room, encode-size}
 
@@ -21,38 +21,23 @@ Answered N l answer after = (answer ≡ encodedBy N l) × (after ≡ bytesAfter 
 -- A refusal leaves the buffer as it was.
 pub encode-refused : (N : Network) (l : List ℕ) (r : ℕ) → r ≡ encodeRefusal N l → (r ≡ 0 → ⊥) → Answered N l (record { refusal = r; count = 0 }) l
 unfolding encodedBy bytesAfter
-encode-refused N l zero e d = absurd (d refl)
-encode-refused N l (suc r) e d =
-    (ap (λ x. encodeAnswer x (length (encodeOf N))) e, ap (λ x. unlessRefused x (encodeOf N ++ drop (length (encodeOf N)) l) l) e)
+encode-refused N l r e some = rw (← e, refused-some r (length (encodeOf N)) 0 some, refused-some r (encodeOf N ++ drop (length (encodeOf N)) l) l some) (refl, refl)
 
 -- Without one the plan stands in it.
 pub encode-written : (N : Network) (l : List ℕ) (n : ℕ) (after : List ℕ) → encodeRefusal N l ≡ 0 → n ≡ length (encodeOf N)
     → after ≡ encodeOf N ++ drop (length (encodeOf N)) l → Answered N l (record { refusal = 0; count = n }) after
 unfolding encodedBy bytesAfter
-encode-written N l n after e count bytes = (
-  ap (encodeAnswer 0) count ∙ ap (λ x. encodeAnswer x (length (encodeOf N))) (sym e),
-  bytes ∙ ap (λ x. unlessRefused x (encodeOf N ++ drop (length (encodeOf N)) l) l) (sym e),
-)
+encode-written N l n after e count bytes = rw e (ap (λ (k : ℕ). record { refusal = 0; count = k }) count, bytes)
 
 -- ---- what the answer means
-
--- The answer's refusal is the call's.
-encode-refusal : (N : Network) (l : List ℕ) → encodedBy N l .refusal ≡ encodeRefusal N l
-unfolding encodedBy
-encode-refusal N l = go (encodeRefusal N l)
-  where
-    go : (r : ℕ) → encodeAnswer r (length (encodeOf N)) .refusal ≡ r
-    go zero = refl
-    go (suc r) = refl
 
 -- A call that gave the refusal 0 was made on an accepted record, and has written its plan.
 pub written-call : (N : Network) (l : List ℕ) → encodedBy N l .refusal ≡ 0
     → (faultOf N ≡ 0)
     × Answered N l (record { refusal = 0; count = length (encodeOf N) }) (encodeOf N ++ drop (length (encodeOf N)) l)
-unfolding encodeRefusal
+unfolding encodeRefusal encodedBy
 written-call N l e =
-    let none : encodeRefusal N l ≡ 0 = sym (encode-refusal N l) ∙ e in
-    (then-none (faultOf N) _ none .0, encode-written N l (length (encodeOf N)) _ none refl refl)
+    (then-none (faultOf N) _ e .0, encode-written N l (length (encodeOf N)) _ e refl refl)
 
 -- The plan that was written reads back as the record.
 pub reads-back : (N : Network) → Stored N → (l : List ℕ) → encodedBy N l .refusal ≡ 0
