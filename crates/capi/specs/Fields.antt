@@ -1,6 +1,5 @@
 -- What crosses the border to other languages, field by field.
 --
---   assembled ..         a network from its fields
 --   Read s r N           reading the bytes s gives the refusal r and the network N
 --   Written N lent r n after     writing N into a buffer that held `lent` gives the refusal r and the count n, and leaves `after` in it
 --   Found N r n e        finding the relevant part of N gives the refusal r, the nodes n and the edges e
@@ -17,16 +16,6 @@ use Rattle.format.specs.Format.{decodeOf, encodedBy, bytesAfter}
 use Rattle.graph.specs.Cuts.{Cut, Mincut}
 use Rattle.reach.specs.Answers.{relevantOf, verdictOf, told}
 use Rattle.listing.specs.List.{listedBy, cutRowsAfter, sideRowsAfter}
-
-abbrev pub assembled : ℕ → ℕ → ℕ → ℕ → List ℕ → List ℕ → Network
-assembled nodes source sink present first second = record {
-  nodes = nodes;
-  source = source;
-  sink = sink;
-  present = record { 0 = present };
-  first = first;
-  second = second;
-}
 
 pub record Read (s : List ℕ) (r : ℕ) (N : Network) : Type 0 where
   pub refusal : r ≡ decodeOf s .refusal

@@ -5,12 +5,12 @@
 use edge_set::EdgeSet;
 use network::Network;
 ghost use mathlib.Core.Path.{_≡_};
-ghost use Rattle.network.specs.Record.{faultOf};
+ghost use Rattle.network.specs.Record.{assembled, faultOf};
 ghost use Rattle.widths.specs.Widths.{widthsOf};
 ghost use Rattle.format.specs.Meaning.{ReadMeans, WrittenMeans};
 ghost use Rattle.reach.specs.Answers.{PartMeans};
 ghost use Rattle.listing.specs.List.{ListMeans};
-ghost use Rattle.capi.specs.Fields.{assembled, Read, Written, Found, Judged, JudgedMeans, Listing};
+ghost use Rattle.capi.specs.Fields.{Read, Written, Found, Judged, JudgedMeans, Listing};
 
 // Reads a plan. Gives the refusal's number, 0 if there is none, and fills in the record, all zero on refusal.
 #[no_mangle]

@@ -12,7 +12,7 @@ use Rattle.bitset.proofs.Subsets.{same-test, ⊆-insert}
 use Rattle.bitset.proofs.Tests.{T-and, T-eqb}
 use Rattle.bitset.proofs.Sets.{in-insert, in-single, same-set, in-or}
 use Rattle.network.specs.declared.Network.{Network}
-use Rattle.network.specs.Record.{firstEnd, secondEnd}
+use Rattle.network.specs.Record.{firstEnd, secondEnd, present}
 use Rattle.graph.specs.Paths.{Joins}
 use Rattle.graph.specs.Cuts.{only}
 use Rattle.graph.specs.Reach.{round, reachOf, Bounded}
@@ -25,7 +25,7 @@ use Rattle.cuts.specs.Enumeration.{relevantPart}
 
 module _ (N : Network) (S : Sound N) where
   -- The edges of the relevant part are present.
-  part-present : relevantEdges N ⊆ N .present .0
+  part-present : relevantEdges N ⊆ present N
   unfolding relevantEdges
   part-present e m = in-edgesWithin N (S .bounded) (relevantNodes N) e .0 m .0
 

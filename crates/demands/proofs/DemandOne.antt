@@ -13,7 +13,7 @@ use lib.Seq.{drop-at}
 use Rattle.bitset.specs.Members.{_⊆_}
 use Rattle.bitset.proofs.Subsets.{subset-and}
 use Rattle.network.specs.declared.Network.{Network}
-use Rattle.network.specs.Record.{Stored, faultOf}
+use Rattle.network.specs.Record.{Stored, faultOf, present}
 use Rattle.network.specs.Rules.{Rules}
 use Rattle.network.proofs.Refusals.{none-then, some-then, some-when, none-when}
 use Rattle.network.proofs.Rules.{fault-rules}
@@ -82,22 +82,22 @@ part N stored = go (ℕ-discrete (faultOf N) 0)
 -- ---- judging
 
 judging : (N : Network) → Stored N → (c : ℕ) → JudgingEnds N c (verdictOf N c)
-judging N stored c = go (ℕ-discrete (faultOf N) 0) (ℕ-discrete (bitAnd c (N .present .0)) c)
+judging N stored c = go (ℕ-discrete (faultOf N) 0) (ℕ-discrete (bitAnd c (present N)) c)
   where
     -- A verdict that says something true of a set that is not refused is none of the refusals.
-    unrefused : faultOf N ≡ 0 → c ⊆ N .present .0 → (v : Verdict) → Says N c v → told v .refusal ≡ 0
+    unrefused : faultOf N ≡ 0 → c ⊆ present N → (v : Verdict) → Says N c v → told v .refusal ≡ 0
     unrefused ok within NotCut s = refl
     unrefused ok within NotMinimal s = refl
     unrefused ok within Minimal s = refl
     unrefused ok within (Refused r) s = absurd (omega (arith, judge-none N c ok within, s .0, s .1))
 
-    go : Dec (faultOf N ≡ 0) → Dec (bitAnd c (N .present .0) ≡ c) → JudgingEnds N c (verdictOf N c)
+    go : Dec (faultOf N ≡ 0) → Dec (bitAnd c (present N) ≡ c) → JudgingEnds N c (verdictOf N c)
     go (no f) d = subst (JudgingEnds N c) (verdict-refused N c (faultOf N) (judge-record N c (faultOf N) refl f) f) (JudgingEnds.faulty (some f))
     go (yes ok) (no d) =
-        let out : c ⊆ N .present .0 → ⊥ = λ within. d (subset-and c (N .present .0) .0 within) in
+        let out : c ⊆ present N → ⊥ = λ within. d (subset-and c (present N) .0 within) in
         subst (JudgingEnds N c) (verdict-refused N c 14 (judge-absent N c ok out) (λ e. omega arith)) (JudgingEnds.absent (rules N ok) out)
     go (yes ok) (yes e) =
-        let within : c ⊆ N .present .0 = subset-and c (N .present .0) .1 e in
+        let within : c ⊆ present N = subset-and c (present N) .1 e in
         let says : Says N c (verdictOf N c) = verdict-right N stored c in
         JudgingEnds.judged (verdictOf N c) (rules N ok) within (unrefused ok within (verdictOf N c) says) says
 

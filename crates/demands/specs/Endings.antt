@@ -15,7 +15,7 @@ use Prim.Native.Nat.{ℕ, _≤_, _<_}
 use lib.ListN.{length, drop}
 use Rattle.bitset.specs.Members.{_∈_, _⊆_}
 use Rattle.network.specs.declared.Network.{Network}
-use Rattle.network.specs.Record.{Stored, faultOf}
+use Rattle.network.specs.Record.{Stored, faultOf, present}
 use Rattle.network.specs.Rules.{Rules}
 use Rattle.format.specs.declared.Decoded.{Decoded}
 use Rattle.format.specs.declared.Encoded.{Encoded}
@@ -39,9 +39,9 @@ pub data PartEnds (N : Network) : RelevantPart → Type 0 where
 
 -- A verdict that is true; 14 for an edge that is not present.
 pub data JudgingEnds (N : Network) (c : ℕ) : Verdict → Type 0 where
-  judged : (v : Verdict) → Rules N → c ⊆ N .present .0 → told v .refusal ≡ 0 → Says N c v → JudgingEnds N c v
+  judged : (v : Verdict) → Rules N → c ⊆ present N → told v .refusal ≡ 0 → Says N c v → JudgingEnds N c v
   faulty : 0 < faultOf N → JudgingEnds N c (Verdict.Refused (faultOf N))
-  absent : Rules N → (c ⊆ N .present .0 → ⊥) → JudgingEnds N c (Verdict.Refused 14)
+  absent : Rules N → (c ⊆ present N → ⊥) → JudgingEnds N c (Verdict.Refused 14)
 
 pub record Kept (n : ℕ) (before after : List ℕ) : Type 0 where
   pub size : length after ≡ length before

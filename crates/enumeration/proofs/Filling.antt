@@ -12,7 +12,7 @@ use Rattle.bitset.specs.Members.{insert, _∈_}
 use Rattle.bitset.proofs.Members.{has-zero}
 use Rattle.bitset.proofs.Sets.{in-insert}
 use Rattle.network.specs.declared.Network.{Network}
-use Rattle.network.specs.Record.{firstEnd, secondEnd}
+use Rattle.network.specs.Record.{firstEnd, secondEnd, present}
 use Rattle.graph.specs.Paths.{Joins}
 use Rattle.graph.specs.Cuts.{only}
 use Rattle.graph.proofs.Walks.{joins-sym}
@@ -137,7 +137,7 @@ zeros (suc n) zero = refl
 zeros (suc n) (suc v) = zeros n v
 
 -- The ends of an edge of a sound network have a place in the tables.
-pub ends-fit : (N : Network) → Sound N → (k : ℕ) → k ∈ N .present .0 → (firstEnd N k < 32) × (secondEnd N k < 32)
+pub ends-fit : (N : Network) → Sound N → (k : ℕ) → k ∈ present N → (firstEnd N k < 32) × (secondEnd N k < 32)
 ends-fit N S k m =
     let j = joins-stored N k m in
     let first = S .bounded .ends k (secondEnd N k) (firstEnd N k) (joins-sym N k (firstEnd N k) (secondEnd N k) j) in

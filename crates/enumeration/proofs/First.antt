@@ -6,6 +6,7 @@ use mathlib.Core.Logic.{inl}
 use Prim.Native.Nat.{ℕ}
 use Rattle.bitset.specs.Members.{_⊆_, _∈_}
 use Rattle.bitset.proofs.Sets.{in-drop}
+use Rattle.network.specs.Record.{present}
 use Rattle.network.specs.declared.Network.{Network}
 use Rattle.graph.specs.Cuts.{only}
 use Rattle.graph.specs.Relevant.{relevantNodes, relevantEdges}
@@ -20,7 +21,7 @@ use Rattle.enumeration.specs.Rows.{Fed, Put}
 
 module _ (N : Network) (S : Sound N) where
   -- The relevant edges are present.
-  pub relevant-present : relevantEdges N ⊆ N .present .0
+  pub relevant-present : relevantEdges N ⊆ present N
   unfolding relevantEdges
   relevant-present e m = in-edgesWithin N (S .bounded) (relevantNodes N) e .0 m .0
 

@@ -8,7 +8,7 @@ ghost use mathlib.Core.List.{[], _∷_};
 ghost use Prim.Native.Nat.{_^_, _≤_, _<_};
 ghost use lib.ListN.{getD, set, replicate};
 ghost use Rattle.bitset.specs.Members.{insert, _∈_, _⊆_, _∖_};
-ghost use Rattle.network.specs.Record.{faultOf};
+ghost use Rattle.network.specs.Record.{faultOf, present};
 ghost use Rattle.graph.specs.Reach.{Bounded};
 ghost use Rattle.graph.specs.Cuts.{only};
 ghost use Rattle.graph.specs.Relevant.{reachIn, relevantNodes, relevantEdges};
@@ -40,7 +40,7 @@ fn hang(at: &mut [u64; 32], a: u8, e: u32)
 
 // For each node the nodes beside it and the edges at it, over the given edges, into two empty tables.
 fn fill_tables(network: Network, edges: EdgeSet, near: &mut [u32; 32], at: &mut [u64; 32])
-    requires { ⌜ (faultOf network ≡ 0) × (edges .0 ⊆ network .present .0) × (now near ≡ replicate 32 0) × (now at ≡ replicate 32 0) ⌝ }
+    requires { ⌜ (faultOf network ≡ 0) × (edges .0 ⊆ present network) × (now near ≡ replicate 32 0) × (now at ≡ replicate 32 0) ⌝ }
     ensures { λ _. ⌜ Near (only network (edges .0)) (now (near .exit)) × At (only network (edges .0)) (now (at .exit)) ⌝ }
 {
     let mut left = edges;

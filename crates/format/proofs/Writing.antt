@@ -15,7 +15,7 @@ use borrow.Author.Tests.{lt-ltb, le-ltb, eq-eqb, ne-eqb, ltb-false}
 use Rattle.bitset.specs.Members.{has, insert, size}
 use Rattle.bitset.proofs.Members.{has-insert, has-mod, same-members}
 use Rattle.network.specs.declared.Network.{Network}
-use Rattle.network.specs.Record.{Stored, Slot, slot, rising, slots, slotFault, endFault, absentFault, faultOf, bare, withEdge, hasEdge, firstEnd, secondEnd}
+use Rattle.network.specs.Record.{rewired, Stored, Slot, slot, rising, slots, slotFault, endFault, absentFault, faultOf, bare, withEdge, hasEdge, firstEnd, secondEnd, present}
 use Rattle.network.proofs.Refusals.{when-none, or-none}
 use Rattle.network.proofs.Slots.{empty, accepted}
 use Rattle.format.specs.Format.{accept, edges, decodeOf, commandOf, edgeCommand, encodeOf, WrittenTo}
@@ -82,40 +82,31 @@ below-same s k e = same-members _ _ (λ j. has-mod (suc k) s j ∙ at j (ℕ-dis
 
 -- N with its edges below k alone.
 below : Network → ℕ → Network
-below N k = record {
-  nodes = N .nodes;
-  source = N .source;
-  sink = N .sink;
-  present = record { 0 = N .present .0 % 2 ^ k };
-  first = prefix k (N .first);
-  second = prefix k (N .second);
-}
+below N k = rewired N (present N % 2 ^ k) (prefix k (N .first)) (prefix k (N .second))
 
 -- Two networks with the same nodes and terminals are equal if their edges and ends are.
-assemble : (n s t : ℕ) {p p′ : ℕ} {f f′ g g′ : List ℕ} → p ≡ p′ → f ≡ f′ → g ≡ g′
-    → _≡_ {A = Network} (record { nodes = n; source = s; sink = t; present = record { 0 = p }; first = f; second = g })
-    (record { nodes = n; source = s; sink = t; present = record { 0 = p′ }; first = f′; second = g′ })
-assemble n s t e e′ e″ = λ i. record { nodes = n; source = s; sink = t; present = record { 0 = e i }; first = e′ i; second = e″ i }
+rewired-equal : (N : Network) {p p′ : ℕ} {f f′ g g′ : List ℕ} → p ≡ p′ → f ≡ f′ → g ≡ g′ → rewired N p f g ≡ rewired N p′ f′ g′
+rewired-equal N e e′ e″ = λ i. rewired N (e i) (e′ i) (e″ i)
 
 module _ (N : Network) (stored : Stored N) where
   below-none : bare (N .nodes) (N .source) (N .sink) ≡ below N 0
   unfolding below bare prefix
-  below-none = assemble (N .nodes) (N .source) (N .sink) (sym (mod-one (N .present .0))) refl refl
+  below-none = rewired-equal N (sym (mod-one (present N))) refl refl
 
   below-all : below N 64 ≡ N
   unfolding below
-  below-all = assemble (N .nodes) (N .source) (N .sink) (mod-eq-of-lt (stored .edges)) (prefix-all (N .first) (stored .firsts)) (prefix-all (N .second) (stored .seconds))
+  below-all = rewired-equal N (mod-eq-of-lt (stored .edges)) (prefix-all (N .first) (stored .firsts)) (prefix-all (N .second) (stored .seconds))
 
   below-edge : (k : ℕ) → k < 64 → hasEdge N k ≡ true → withEdge (below N k) k (firstEnd N k) (secondEnd N k) ≡ below N (suc k)
   unfolding below withEdge
   below-edge k l e =
-      assemble (N .nodes) (N .source) (N .sink) (below-more (N .present .0) k e) (prefix-set k (N .first) l (stored .firsts))
+      rewired-equal N (below-more (present N) k e) (prefix-set k (N .first) l (stored .firsts))
       (prefix-set k (N .second) l (stored .seconds))
 
   below-absent : (k : ℕ) → k < 64 → slot N k ≡ empty → below N (suc k) ≡ below N k
   unfolding below
   below-absent k l e =
-      assemble (N .nodes) (N .source) (N .sink) (below-same (N .present .0) k (ap (λ (x : Slot). x .0) e))
+      rewired-equal N (below-same (present N) k (ap (λ (x : Slot). x .0) e))
       (prefix-zero k (N .first) l (stored .firsts) (ap (λ (x : Slot). x .1) e))
       (prefix-zero k (N .second) l (stored .seconds) (ap (λ (x : Slot). x .2) e))
 
@@ -236,17 +227,17 @@ flatMap-append f [] m = refl
 flatMap-append f (x ∷ l) m = ap (λ t. f x ++ t) (flatMap-append f l m) ∙ sym (append-assoc (f x) (flatMap f l) (flatMap f m))
 
 -- The commands have four bytes for each present edge.
-command-size : (N : Network) (k : ℕ) → length (edgeCommand N k) + 4 * size k (N .present .0) ≡ 4 * size (suc k) (N .present .0)
+command-size : (N : Network) (k : ℕ) → length (edgeCommand N k) + 4 * size k (present N) ≡ 4 * size (suc k) (present N)
 unfolding edgeCommand size
 command-size N k = go (hasEdge N k)
   where
     go : (b : Bool)
-        → length (cond b (0x43 ∷ k ∷ firstEnd N k ∷ secondEnd N k ∷ []) []) + 4 * size k (N .present .0)
-        ≡ 4 * (elim b as (λ x. ℕ) [ true ↦ suc (size k (N .present .0)) | false ↦ size k (N .present .0) ])
+        → length (cond b (0x43 ∷ k ∷ firstEnd N k ∷ secondEnd N k ∷ []) []) + 4 * size k (present N)
+        ≡ 4 * (elim b as (λ x. ℕ) [ true ↦ suc (size k (present N)) | false ↦ size k (present N) ])
     go true = omega arith
     go false = omega arith
 
-commands-size : (N : Network) (n : ℕ) → length (flatMap (edgeCommand N) (rising 0 n)) ≡ 4 * size n (N .present .0)
+commands-size : (N : Network) (n : ℕ) → length (flatMap (edgeCommand N) (rising 0 n)) ≡ 4 * size n (present N)
 unfolding rising flatMap size
 commands-size N zero = refl
 commands-size N (suc n) =
@@ -258,7 +249,7 @@ commands-size N (suc n) =
     ∙ omega (arith, commands-size N n, command-size N n)
 
 -- A plan has six bytes and four for each edge.
-pub encode-size : (N : Network) → length (encodeOf N) ≡ 6 + 4 * size 64 (N .present .0)
+pub encode-size : (N : Network) → length (encodeOf N) ≡ 6 + 4 * size 64 (present N)
 unfolding encodeOf
 encode-size N = omega (arith, commands-size N 64, length-append (flatMap (edgeCommand N) slots) (0x45 ∷ []))
 

@@ -9,7 +9,7 @@ use Rattle.bitset.specs.Members.{has, _⊆_, _∖_, _∈_}
 use Rattle.bitset.proofs.Tests.{T-and, T-xor}
 use Rattle.bitset.proofs.Sets.{in-minus, in-single, same-set}
 use Rattle.network.specs.declared.Network.{Network}
-use Rattle.network.specs.Record.{firstEnd, secondEnd}
+use Rattle.network.specs.Record.{firstEnd, secondEnd, present}
 use Rattle.graph.specs.Paths.{Joins, Minpath}
 use Rattle.graph.specs.Cuts.{Mincut, RelevantEdge, RelevantNode, OnSourceSide}
 use Rattle.graph.specs.SourceSides.{Beyond, SourceSide, Crosses, Boundary}
@@ -27,7 +27,7 @@ use Rattle.graph.proofs.SourceSides.{side-mincut, boundary-side, mincut
 
 module _ (N : Network) (S : Sound N) where
   -- A present edge crosses exactly if one of its stored ends is in s.
-  crosses-stored : (s e : ℕ) → e ∈ N .present .0 → T (xor (has s (firstEnd N e)) (has s (secondEnd N e))) ↔ Crosses N s e
+  crosses-stored : (s e : ℕ) → e ∈ present N → T (xor (has s (firstEnd N e)) (has s (secondEnd N e))) ↔ Crosses N s e
   unfolding Joins
   crosses-stored s e m =
       let a : ℕ = firstEnd N e in
@@ -47,7 +47,7 @@ module _ (N : Network) (S : Sound N) where
   unfolding boundaryOf
   in-boundaryOf s e =
       let r : ℕ = relevantEdges N in
-      let present : RelevantEdge N e → e ∈ N .present .0 = relevant-present N e in
+      let present : RelevantEdge N e → e ∈ present N = relevant-present N e in
       let test = in-chosen (λ k. has r k && xor (has s (firstEnd N k)) (has s (secondEnd N k))) 64 e in
       let both = T-and (has r e) (xor (has s (firstEnd N e)) (has s (secondEnd N e))) in (
         λ m.

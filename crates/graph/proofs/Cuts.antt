@@ -11,6 +11,7 @@ use Rattle.bitset.proofs.Subsets.{⊆-trans, subset-and}
 use Rattle.bitset.proofs.Tests.{T-not, T-then, T-eqb}
 use Rattle.bitset.proofs.Sets.{∈-dec, in-and, minus-⊆, member-lt}
 use Rattle.bitset.proofs.MemberList.{in-members}
+use Rattle.network.specs.Record.{present}
 use Rattle.network.specs.declared.Network.{Network}
 use Rattle.graph.specs.Paths.{Minpath, Connected, SameMinpaths}
 use Rattle.graph.specs.Cuts.{only, without, Cut, Mincut}
@@ -25,7 +26,7 @@ use Rattle.graph.proofs.Families.{Holds, Transversal, Blocker, Decided,
 
 module _ (N : Network) where
   -- A set of present edges is a cut exactly if without it the source is not connected to the sink.
-  pub cut-connected : (c : ℕ) → Cut N c ↔ ((c ⊆ N .present .0) × (Connected (without N c) (N .source) (N .sink) → ⊥))
+  pub cut-connected : (c : ℕ) → Cut N c ↔ ((c ⊆ present N) × (Connected (without N c) (N .source) (N .sink) → ⊥))
   unfolding only
   cut-connected c = (
     λ k. (k .present, λ w. let m = walk-minpath (without N c) (w .0) (w .1) in k .severs (m .0) (m .1 .0)),
@@ -33,10 +34,10 @@ module _ (N : Network) where
   )
 
   -- A set of present edges is a cut exactly if it meets every minpath.
-  pub cut-transversal : (c : ℕ) → Cut N c ↔ ((c ⊆ N .present .0) × Transversal (Minpath N) c)
+  pub cut-transversal : (c : ℕ) → Cut N c ↔ ((c ⊆ present N) × Transversal (Minpath N) c)
   cut-transversal c =
-      let rest = transversal-rest (Minpath N) (N .present .0) (minpath-present N) c in
-      let only-rest = minpath-only N (N .present .0 ∖ c) (minus-⊆ (N .present .0) c) in (
+      let rest = transversal-rest (Minpath N) (present N) (minpath-present N) c in
+      let only-rest = minpath-only N (present N ∖ c) (minus-⊆ (present N) c) in (
         λ k. (k .present, rest .1 (λ h. k .severs (h .0) (only-rest (h .0) .1 (h .1)))),
         λ k. record { present = k .0; severs = λ r m. rest .0 (k .1) (r, only-rest r .0 m) },
       )
@@ -46,10 +47,10 @@ module _ (N : Network) where
   mincut-blocker c = (
     λ m. record {
       has = cut-transversal c .0 (m .cut) .1;
-      least = λ d h v. m .least d h (cut-transversal d .1 (⊆-trans d c (N .present .0) h (m .cut .present), v));
+      least = λ d h v. m .least d h (cut-transversal d .1 (⊆-trans d c (present N) h (m .cut .present), v));
     },
     λ b. record {
-      cut = cut-transversal c .1 (blocker-inside (Minpath N) (N .present .0) (minpath-present N) c b, b .has);
+      cut = cut-transversal c .1 (blocker-inside (Minpath N) (present N) (minpath-present N) c b, b .has);
       least = λ d h k. b .least d h (cut-transversal d .0 k .1);
     },
   )
@@ -58,7 +59,7 @@ module _ (N : Network) where
   pub mincut-drop : (c : ℕ) → Cut N c → Mincut N c ↔ ((e : ℕ) → e ∈ c → Cut N (c ∖ 2 ^ e) → ⊥)
   mincut-drop c k =
       let drop = least-drop (Transversal (Minpath N)) (transversal-up (Minpath N)) c (cut-transversal c .0 k .1) in
-      let inside : (e : ℕ) → (c ∖ 2 ^ e) ⊆ N .present .0 = λ e. ⊆-trans (c ∖ 2 ^ e) c (N .present .0) (minus-⊆ c (2 ^ e)) (k .present) in (
+      let inside : (e : ℕ) → (c ∖ 2 ^ e) ⊆ present N = λ e. ⊆-trans (c ∖ 2 ^ e) c (present N) (minus-⊆ c (2 ^ e)) (k .present) in (
         λ m e n d. drop .0 (mincut-blocker c .0 m) e n (cut-transversal (c ∖ 2 ^ e) .0 d .1),
         λ f. mincut-blocker c .1 (drop .1 (λ e n v. f e n (cut-transversal (c ∖ 2 ^ e) .1 (inside e, v)))),
       )
@@ -71,17 +72,17 @@ module _ (N : Network) where
 
   module _ (B : Bounded N) where
     -- A set of present edges holds a minpath exactly if over it the source reaches the sink.
-    pub minpath-reach : (h : ℕ) → h ⊆ N .present .0 → (N .sink ∈ reachOf (only N h) (2 ^ N .source)) ↔ Holds (Minpath N) h
+    pub minpath-reach : (h : ℕ) → h ⊆ present N → (N .sink ∈ reachOf (only N h) (2 ^ N .source)) ↔ Holds (Minpath N) h
     minpath-reach h l = Iff·trans (in-reach-single (only N h) (bounded-only N B h l) (N .source) (N .sink)) (connected-minpath N h l)
 
     -- Whether a set holds a minpath is decided.
-    pub minpaths-decided : Decided (Minpath N) (N .present .0)
+    pub minpaths-decided : Decided (Minpath N) (present N)
     minpaths-decided = record {
       inside = minpath-present N;
       decide = λ h.
-          let k : ℕ = bitAnd h (N .present .0) in
-          let l : k ⊆ N .present .0 = λ e m. in-and h (N .present .0) e .0 m .1 in
-          let holds = Iff·trans (minpath-reach k l) (holds-inside (Minpath N) (N .present .0) (minpath-present N) h) in
+          let k : ℕ = bitAnd h (present N) in
+          let l : k ⊆ present N = λ e m. in-and h (present N) e .0 m .1 in
+          let holds = Iff·trans (minpath-reach k l) (holds-inside (Minpath N) (present N) (minpath-present N) h) in
           Dec·of-iff holds (∈-dec (N .sink) (reachOf (only N k) (2 ^ N .source)));
     }
 
@@ -119,13 +120,13 @@ same-minpaths N M B C =
 module _ (N : Network) (B : Bounded N) where
   -- A set of present edges is a cut exactly if without it the source does not reach the sink.
   pub cut-reach : (c : ℕ)
-      → Cut N c ↔ ((c ⊆ N .present .0) × (N .sink ∈ reachOf (without N c) (2 ^ N .source) → ⊥))
+      → Cut N c ↔ ((c ⊆ present N) × (N .sink ∈ reachOf (without N c) (2 ^ N .source) → ⊥))
   cut-reach c =
-      let B′ = bounded-only N B (N .present .0 ∖ c) (minus-⊆ (N .present .0) c) in
+      let B′ = bounded-only N B (present N ∖ c) (minus-⊆ (present N) c) in
       Iff·trans (cut-connected N c) (Iff·and Iff·rfl (Iff·not (Iff·symm (in-reach-single (without N c) B′ (N .source) (N .sink)))))
 
   -- Of a set of present edges, the test of what it severs tells whether it is a cut.
-  pub severed-iff : (c : ℕ) → c ⊆ N .present .0 → T (severed N c) ↔ Cut N c
+  pub severed-iff : (c : ℕ) → c ⊆ present N → T (severed N c) ↔ Cut N c
   unfolding severed
   severed-iff c l =
       let reached = T-not (has (reachOf (without N c) (2 ^ N .source)) (N .sink)) in
@@ -135,8 +136,8 @@ module _ (N : Network) (B : Bounded N) where
   pub cutTest-iff : (c : ℕ) → T (cutTest N c) ↔ Cut N c
   unfolding cutTest
   cutTest-iff c =
-      let within = Iff·trans (T-eqb (bitAnd c (N .present .0)) c) (Iff·symm (subset-and c (N .present .0))) in
-      let both = T-then (eqb (bitAnd c (N .present .0)) c) (severed N c) in (
+      let within = Iff·trans (T-eqb (bitAnd c (present N)) c) (Iff·symm (subset-and c (present N))) in
+      let both = T-then (eqb (bitAnd c (present N)) c) (severed N c) in (
         λ t. severed-iff c (within .0 (both .0 t .0)) .0 (both .0 t .1),
         λ k. both .1 (within .1 (k .present), severed-iff c (k .present) .1 k),
       )
@@ -148,12 +149,12 @@ module _ (N : Network) (B : Bounded N) where
       let kept : ℕ → Bool = λ e. not (severed N (c ∖ 2 ^ e)) in
       let both = T-then (cutTest N c) (every kept (members 64 c)) in
       let all = T-every kept (members 64 c) in
-      let dropped : c ⊆ N .present .0 → (e : ℕ) → T (severed N (c ∖ 2 ^ e)) ↔ Cut N (c ∖ 2 ^ e) =
-      λ l e. severed-iff (c ∖ 2 ^ e) (⊆-trans (c ∖ 2 ^ e) c (N .present .0) (minus-⊆ c (2 ^ e)) l) in (
+      let dropped : c ⊆ present N → (e : ℕ) → T (severed N (c ∖ 2 ^ e)) ↔ Cut N (c ∖ 2 ^ e) =
+      λ l e. severed-iff (c ∖ 2 ^ e) (⊆-trans (c ∖ 2 ^ e) c (present N) (minus-⊆ c (2 ^ e)) l) in (
         λ t.
             let k = cutTest-iff c .0 (both .0 t .0) in
             mincut-drop N c k .1 (λ e m d.
-            let listed = in-members 64 c e .1 (m, member-lt 64 (N .present .0) e (B .edges) (k .present e m)) in
+            let listed = in-members 64 c e .1 (m, member-lt 64 (present N) e (B .edges) (k .present e m)) in
             T-not (severed N (c ∖ 2 ^ e)) .0 (all .0 (both .0 t .1) e listed) (dropped (k .present) e .1 d)),
         λ m.
             let drop = mincut-drop N c (m .cut) .0 m in

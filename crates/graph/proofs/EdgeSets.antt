@@ -13,7 +13,7 @@ use Rattle.bitset.proofs.Members.{has-zero}
 use Rattle.bitset.proofs.Tests.{T-and, T-or, T-eqb}
 use Rattle.bitset.proofs.Sets.{member-lt}
 use Rattle.network.specs.declared.Network.{Network}
-use Rattle.network.specs.Record.{hasEdge, firstEnd, secondEnd}
+use Rattle.network.specs.Record.{hasEdge, firstEnd, secondEnd, present}
 use Rattle.graph.specs.Paths.{Joins, Step, Leads, edgesOf}
 use Rattle.graph.specs.Cuts.{only}
 use Rattle.graph.specs.Reach.{reachOf, Bounded}
@@ -37,14 +37,14 @@ in-chosen f (suc n) k = (
 )
 
 -- A present edge joins its stored ends.
-pub joins-stored : (N : Network) (e : ℕ) → e ∈ N .present .0 → Joins N e (firstEnd N e) (secondEnd N e)
+pub joins-stored : (N : Network) (e : ℕ) → e ∈ present N → Joins N e (firstEnd N e) (secondEnd N e)
 unfolding Joins
 joins-stored N e m = (m, inl (refl, refl))
 
 module _ (N : Network) (B : Bounded N) where
   -- A present edge has a number below 64.
-  pub edge-lt : (e : ℕ) → e ∈ N .present .0 → e < 64
-  edge-lt e m = member-lt 64 (N .present .0) e (B .edges) m
+  pub edge-lt : (e : ℕ) → e ∈ present N → e < 64
+  edge-lt e m = member-lt 64 (present N) e (B .edges) m
 
   -- The edges at c are those that join c to some node.
   pub in-edgesAt : (c e : ℕ) → (e ∈ edgesAt N c) ↔ ((x : ℕ) × Joins N e c x)
@@ -71,7 +71,7 @@ module _ (N : Network) (B : Bounded N) where
       )
 
   -- The edges within u are the present edges that join nodes of u.
-  pub in-edgesWithin : (u e : ℕ) → (e ∈ edgesWithin N u) ↔ ((e ∈ N .present .0) × ((x y : ℕ) → Joins N e x y → x ∈ u))
+  pub in-edgesWithin : (u e : ℕ) → (e ∈ edgesWithin N u) ↔ ((e ∈ present N) × ((x y : ℕ) → Joins N e x y → x ∈ u))
   unfolding edgesWithin Joins
   in-edgesWithin u e =
       let a : ℕ = firstEnd N e in
@@ -90,7 +90,7 @@ module _ (N : Network) (B : Bounded N) where
       )
 
   -- What h reaches over the edges of g are the nodes to which a walk from h takes edges of g alone.
-  pub in-reach-over : (g : ℕ) → g ⊆ N .present .0 → (h v : ℕ)
+  pub in-reach-over : (g : ℕ) → g ⊆ present N → (h v : ℕ)
       → (v ∈ reachOf (only N g) (2 ^ h)) ↔ ((p : List Step) × (Leads N h p v × (edgesOf p ⊆ g)))
   in-reach-over g l h v =
       let reach = in-reach-single (only N g) (bounded-only N B g l) h v in (

@@ -6,6 +6,7 @@ use mathlib.Core.Logic.{inl, inr, _↔_}
 use Prim.Native.Nat.{ℕ}
 use Rattle.lists.specs.Distinct.{Distinct}
 use Rattle.bitset.specs.Members.{_⊆_, _∈_}
+use Rattle.network.specs.Record.{present}
 use Rattle.network.specs.declared.Network.{Network}
 use Rattle.graph.specs.Paths.{Joins, Step, Leads, Simple, edgesOf, Minpath, Connected}
 use Rattle.graph.specs.Cuts.{only}
@@ -15,7 +16,7 @@ use Rattle.graph.proofs.Walks.{edges-nil, edges-cons, edges-within, joi
 
 module _ (N : Network) where
   -- The edges of a minpath are present.
-  pub minpath-present : (r : ℕ) → Minpath N r → r ⊆ N .present .0
+  pub minpath-present : (r : ℕ) → Minpath N r → r ⊆ present N
   minpath-present r m = rw (← m .members) (edges-present N (m .steps) (N .source) (N .sink) (m .leads))
 
   -- A walk from source to sink holds a minpath.
@@ -26,7 +27,7 @@ module _ (N : Network) where
       (edgesOf (q .steps), (m, edges-within (q .steps) p (q .within)))
 
   -- The minpaths over a set of present edges are the minpaths that lie inside it.
-  pub minpath-only : (h : ℕ) → h ⊆ N .present .0 → (r : ℕ) → Minpath (only N h) r ↔ (Minpath N r × (r ⊆ h))
+  pub minpath-only : (h : ℕ) → h ⊆ present N → (r : ℕ) → Minpath (only N h) r ↔ (Minpath N r × (r ⊆ h))
   unfolding only
   minpath-only h l r = (
     λ m.
@@ -42,7 +43,7 @@ module _ (N : Network) where
   )
 
   -- The sink is connected to the source over a set of present edges exactly if some minpath lies inside it.
-  pub connected-minpath : (h : ℕ) → h ⊆ N .present .0
+  pub connected-minpath : (h : ℕ) → h ⊆ present N
       → Connected (only N h) (N .source) (N .sink) ↔ ((r : ℕ) × (Minpath N r × (r ⊆ h)))
   unfolding only
   connected-minpath h l = (

@@ -17,7 +17,7 @@ use Rattle.bitset.proofs.Size.{size-le, size-lt}
 use Rattle.bitset.proofs.Sets.{∈-dec, in-insert, in-single, member-lt}
 use Rattle.bitset.proofs.MemberList.{in-members}
 use Rattle.network.specs.declared.Network.{Network}
-use Rattle.network.specs.Record.{firstEnd, secondEnd}
+use Rattle.network.specs.Record.{firstEnd, secondEnd, present}
 use Rattle.graph.specs.Paths.{Joins, Step, Leads, Connected}
 use Rattle.graph.specs.Cuts.{only}
 use Rattle.graph.specs.Reach.{Bounded, addIf, across, edgeList, roundOver, rounds, round, reachOf, Closed}
@@ -39,7 +39,7 @@ Beside N s e v = (u : ℕ) × ((u ∈ s) × Joins N e u v)
 
 module _ (N : Network) (s : ℕ) where
   -- Over a present edge come the nodes that it joins to nodes of s.
-  pub in-across : (k : ℕ) → k ∈ N .present .0 → (t v : ℕ) → (v ∈ across N s k t) ↔ ((v ∈ t) ⊎ Beside N s k v)
+  pub in-across : (k : ℕ) → k ∈ present N → (t v : ℕ) → (v ∈ across N s k t) ↔ ((v ∈ t) ⊎ Beside N s k v)
   unfolding across Joins
   in-across k there t v =
       let a : ℕ = firstEnd N k in
@@ -58,7 +58,7 @@ module _ (N : Network) (s : ℕ) where
       )
 
   -- A round over a list of present edges adds the nodes that one of them joins to nodes of s.
-  in-roundOver : (l : List ℕ) → ((k : ℕ) → List·Memᴰ k l → k ∈ N .present .0)
+  in-roundOver : (l : List ℕ) → ((k : ℕ) → List·Memᴰ k l → k ∈ present N)
       → (v : ℕ) → (v ∈ roundOver N l s) ↔ ((v ∈ s) ⊎ ((e : ℕ) × (List·Memᴰ e l × Beside N s e v)))
   unfolding roundOver
   in-roundOver [] there v = (λ m. inl m, λ c. elim c [ inl m ↦ m | inr j ↦ absurd (List·Memᴰ·not-nil (j .1 .0)) ])
@@ -78,15 +78,15 @@ module _ (N : Network) (s : ℕ) where
         ]),
       )
 
-module _ (N : Network) (small : N .present .0 < 2 ^ 64) where
+module _ (N : Network) (small : present N < 2 ^ 64) where
   -- A round adds exactly the nodes that an edge joins to nodes of the set.
   pub in-round : (s v : ℕ) → (v ∈ round N s) ↔ ((v ∈ s) ⊎ ((e : ℕ) × Beside N s e v))
   unfolding Joins
   in-round s v =
-      let listed = in-members 64 (N .present .0) in
+      let listed = in-members 64 (present N) in
       let over = in-roundOver N s (edgeList N) (λ e m. listed e .0 m .0) v in
-      let list : (e : ℕ) → e ∈ N .present .0 → List·Memᴰ e (edgeList N) =
-      λ e m. listed e .1 (m, member-lt 64 (N .present .0) e small m) in (
+      let list : (e : ℕ) → e ∈ present N → List·Memᴰ e (edgeList N) =
+      λ e m. listed e .1 (m, member-lt 64 (present N) e small m) in (
         λ m. ⊎-map (λ n. n) (λ j. (j .0, j .1 .1)) (over .0 m),
         λ c. over .1 (⊎-map (λ n. n) (λ j. (j .0, (list (j .0) (j .1 .1 .1 .0), j .1))) c),
       )
@@ -214,9 +214,9 @@ module _ (N : Network) (B : Bounded N) where
   )
 
 -- A network with fewer edges stays within the same bounds.
-pub bounded-only : (N : Network) → Bounded N → (h : ℕ) → h ⊆ N .present .0 → Bounded (only N h)
+pub bounded-only : (N : Network) → Bounded N → (h : ℕ) → h ⊆ present N → Bounded (only N h)
 unfolding only Joins
 bounded-only N B h l = record {
-  edges = lt-of-le-of-lt (subset-le h (N .present .0) l) (B .edges);
+  edges = lt-of-le-of-lt (subset-le h (present N) l) (B .edges);
   ends = λ e u v j. B .ends e u v (l e (j .0), j .1);
 }

@@ -12,7 +12,7 @@ use Rattle.bitset.specs.Members.{insert, _∖_, _∈_}
 use Rattle.bitset.proofs.Members.{has-ones}
 use Rattle.bitset.proofs.Sets.{in-insert, in-and, in-minus, in-single, in-drop, minus-⊆}
 use Rattle.network.specs.declared.Network.{Network}
-use Rattle.network.specs.Record.{firstEnd, secondEnd}
+use Rattle.network.specs.Record.{firstEnd, secondEnd, present}
 use Rattle.graph.specs.Paths.{Step, Leads, nodesFrom}
 use Rattle.graph.specs.Cuts.{without, RelevantEdge, RelevantNode}
 use Rattle.graph.specs.Reach.{reachOf, Bounded}
@@ -32,19 +32,19 @@ module _ (N : Network) (B : Bounded N) where
   without-node : (c : ℕ) (p : List Step) (u v : ℕ) → c ≢ u
       → Leads (without N (edgesAt N c)) u p v ↔ (Leads N u p v × (List·Memᴰ c (nodesFrom u p) → ⊥))
   without-node c p u v ne =
-      let h : ℕ = N .present .0 ∖ edgesAt N c in
-      let within = leads-within N h (minus-⊆ (N .present .0) (edgesAt N c)) p u v in (
+      let h : ℕ = present N ∖ edgesAt N c in
+      let within = leads-within N h (minus-⊆ (present N) (edgesAt N c)) p u v in (
         λ w.
             let k = within .0 w in (
               k .0,
               λ m. carried N (λ x. c ≢ x) p u v (k .0)
-                  (λ e i x y j a q. in-minus (N .present .0) (edgesAt N c) e .0 (k .1 e i) .1
+                  (λ e i x y j a q. in-minus (present N) (edgesAt N c) e .0 (k .1 e i) .1
                   (in-edgesAt N B c e .1 (x, rw (← q) at (joins-sym N e x y j)))) ne c m refl,
             ),
         λ k.
             within .1 (
               k .0,
-              λ e i. in-minus (N .present .0) (edgesAt N c) e .1
+              λ e i. in-minus (present N) (edgesAt N c) e .1
                   (edges-present N p u v (k .0) e i, λ m. let j = in-edgesAt N B c e .0 m in k .1 (ends-met N p u v e c (j .0) (k .0) i (j .1))),
             ),
       )
@@ -68,7 +68,7 @@ module _ (N : Network) (B : Bounded N) where
   in-past c v =
       let M : Network = without N (edgesAt N c) in
       let start : ℕ = insert (2 ^ N .source) (N .sink) ∖ 2 ^ c in
-      let reach = in-reach M (bounded-only N B (N .present .0 ∖ edgesAt N c) (minus-⊆ (N .present .0) (edgesAt N c))) start v in (
+      let reach = in-reach M (bounded-only N B (present N ∖ edgesAt N c) (minus-⊆ (present N) (edgesAt N c))) start v in (
         λ m. elim (in-insert (reachOf M start) c v .0 m) [
           | inl i ↦
               let w = reach .0 i in

@@ -7,7 +7,7 @@ use Prim.Native.Nat.{ℕ}
 use Rattle.lists.specs.Distinct.{Distinct}
 use Rattle.bitset.specs.Members.{_∈_}
 use Rattle.network.specs.declared.Network.{Network}
-use Rattle.network.specs.Record.{firstEnd, secondEnd}
+use Rattle.network.specs.Record.{firstEnd, secondEnd, present}
 use Rattle.graph.specs.Paths.{Joins, Step, Leads, nodesFrom, Simple, edgesOf}
 use Rattle.graph.specs.Cuts.{RelevantEdge, RelevantNode}
 use Rattle.graph.proofs.Walks.{edges-nil, edges-cons, joins-sym, joins-ends, ends-met, edges-present}
@@ -17,7 +17,7 @@ use Rattle.graph.proofs.RelevantNodes.{end-relevant, relevant-escapes, 
 
 module _ (N : Network) where
   -- A relevant edge is present.
-  pub relevant-present : (e : ℕ) → RelevantEdge N e → e ∈ N .present .0
+  pub relevant-present : (e : ℕ) → RelevantEdge N e → e ∈ present N
   relevant-present e (r, (m, i)) = minpath-present N r m e i
 
   -- A loop, an edge with both ends at one node, is on no simple path.

@@ -8,7 +8,7 @@ use denote.Floats.{is-true}
 use Rattle.bitset.specs.Members.{_∈_}
 use Rattle.bitset.proofs.Sets.{member-lt}
 use Rattle.network.specs.declared.Network.{Network}
-use Rattle.network.specs.Record.{hasEdge, firstEnd, secondEnd, slotFault, faultOf, Stored}
+use Rattle.network.specs.Record.{hasEdge, firstEnd, secondEnd, slotFault, faultOf, Stored, present}
 use Rattle.network.proofs.Refusals.{size-none, pair-none}
 use Rattle.network.proofs.Slots.{accepted}
 use Rattle.graph.specs.Reach.{Bounded}
@@ -24,7 +24,7 @@ pub record Sound (N : Network) : Type 0 where
   pub loopless : (e u : ℕ) → Joins N e u u → ⊥
 
 -- The slot of a present edge keeps the rule of its two ends.
-slot-kept : (N : Network) (e : ℕ) → e ∈ N .present .0 → slotFault N e ≡ 0
+slot-kept : (N : Network) (e : ℕ) → e ∈ present N → slotFault N e ≡ 0
     → (firstEnd N e < N .nodes) × (secondEnd N e < N .nodes) × (firstEnd N e ≢ secondEnd N e)
 unfolding slotFault
 slot-kept N e m none =
@@ -36,8 +36,8 @@ unfolding Joins
 accepted-sound N S ok =
     let rules = accepted N ok in
     let terminals = pair-none 5 6 (N .nodes) (N .source) (N .sink) (omega arith) (omega arith) (rules .terminals) in
-    let slot : (e : ℕ) → e ∈ N .present .0 → (firstEnd N e < N .nodes) × (secondEnd N e < N .nodes) × (firstEnd N e ≢ secondEnd N e) =
-    λ e m. slot-kept N e m (rules .slot-none e (member-lt 64 (N .present .0) e (S .edges) m)) in
+    let slot : (e : ℕ) → e ∈ present N → (firstEnd N e < N .nodes) × (secondEnd N e < N .nodes) × (firstEnd N e ≢ secondEnd N e) =
+    λ e m. slot-kept N e m (rules .slot-none e (member-lt 64 (present N) e (S .edges) m)) in
     record {
       bounded = record {
         edges = S .edges;

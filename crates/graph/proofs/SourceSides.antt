@@ -7,6 +7,7 @@ use Prim.Native.Nat.{ℕ}
 use Rattle.bitset.specs.Members.{_⊆_, _∖_, _∈_}
 use Rattle.bitset.proofs.Subsets.{⊆-antisym}
 use Rattle.bitset.proofs.Sets.{∈-dec, in-minus}
+use Rattle.network.specs.Record.{present}
 use Rattle.network.specs.declared.Network.{Network}
 use Rattle.graph.specs.Reach.{Bounded}
 use Rattle.graph.specs.Paths.{Joins, Step, Leads, nodesFrom, edgesOf, Minpath}
@@ -72,8 +73,8 @@ cut-meets-walk : (N : Network) (d : ℕ) → Cut N d → (p : List Step) → Lea
 cut-meets-walk N d cut p h off =
     cut-connected N d .0 cut .1 (
       p,
-      leads-only N (N .present .0 ∖ d) p (N .source) (N .sink) h
-          (λ e i. in-minus (N .present .0) d e .1 (edges-present N p (N .source) (N .sink) h e i, off e i)),
+      leads-only N (present N ∖ d) p (N .source) (N .sink) h
+          (λ e i. in-minus (present N) d e .1 (edges-present N p (N .source) (N .sink) h e i, off e i)),
     )
 
 module _ (N : Network) (s c : ℕ) (side : SourceSide N s) (boundary : Boundary N s c) where

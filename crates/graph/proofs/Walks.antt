@@ -10,6 +10,7 @@ use Rattle.lists.proofs.Distinct.{distinct-append}
 use Rattle.bitset.specs.Members.{_⊆_, _∈_}
 use Rattle.bitset.proofs.Members.{has-zero}
 use Rattle.bitset.proofs.Sets.{in-insert}
+use Rattle.network.specs.Record.{present}
 use Rattle.network.specs.declared.Network.{Network}
 use Rattle.graph.specs.Paths.{Joins, Step, Leads, nodesFrom, Simple, edgesOf}
 use Rattle.graph.specs.Cuts.{only}
@@ -252,7 +253,7 @@ module _ (N : Network) where
   -- ---- the walks of a part of a network
 
   -- A walk takes present edges alone.
-  pub edges-present : (p : List Step) (u v : ℕ) → Leads N u p v → edgesOf p ⊆ N .present .0
+  pub edges-present : (p : List Step) (u v : ℕ) → Leads N u p v → edgesOf p ⊆ present N
   unfolding Leads Joins
   edges-present [] u v h e m = absurd (edges-nil e m)
   edges-present (s ∷ p) u v h e m =
@@ -274,9 +275,9 @@ module _ (N : Network) (h : ℕ) where
   leads-mono g l p u v w = leads-only (only N h) g p u v w (λ e m. l e (edges-present (only N h) p u v w e m))
 
   -- The walks over a set of present edges are the walks that take those alone.
-  pub leads-within : h ⊆ N .present .0 → (p : List Step) (u v : ℕ) → Leads (only N h) u p v ↔ (Leads N u p v × (edgesOf p ⊆ h))
+  pub leads-within : h ⊆ present N → (p : List Step) (u v : ℕ) → Leads (only N h) u p v ↔ (Leads N u p v × (edgesOf p ⊆ h))
   unfolding only
   leads-within l p u v = (
-    λ w. (leads-mono (N .present .0) l p u v w, edges-present (only N h) p u v w),
+    λ w. (leads-mono (present N) l p u v w, edges-present (only N h) p u v w),
     λ w. leads-only N h p u v (w .0) (w .1),
   )

@@ -11,6 +11,7 @@ use Prim.Native.Nat.{ℕ, _^_}
 use lib.Bits.{bitAnd}
 use lib.Dec.{eqb}
 use Rattle.bitset.specs.Members.{has, _∖_, members}
+use Rattle.network.specs.Record.{present}
 use Rattle.network.specs.declared.Network.{Network}
 use Rattle.graph.specs.Cuts.{without}
 use Rattle.graph.specs.Reach.{reachOf}
@@ -23,7 +24,7 @@ every f [] = true
 every f (k ∷ l) = elim (f k) [ true ↦ every f l | false ↦ false ]
 
 unfoldable pub cutTest : Network → ℕ → Bool
-cutTest N c = elim (eqb (bitAnd c (N .present .0)) c) [ true ↦ severed N c | false ↦ false ]
+cutTest N c = elim (eqb (bitAnd c (present N)) c) [ true ↦ severed N c | false ↦ false ]
 
 unfoldable pub allNeeded : Network → ℕ → Bool
 allNeeded N c = every (λ e. not (severed N (c ∖ 2 ^ e))) (members 64 c)

@@ -13,24 +13,18 @@ use mathlib.Core.Logic.{_⊎_}
 use mathlib.Core.Path.{_≡_}
 use Prim.Native.Nat.{ℕ}
 use Rattle.bitset.specs.Members.{_⊆_, _∖_, _∈_}
+use Rattle.network.specs.Record.{present, rewired}
 use Rattle.network.specs.declared.Network.{Network}
 use Rattle.graph.specs.Paths.{Step, Leads, nodesFrom, edgesOf, Minpath}
 
 unfoldable pub only : Network → ℕ → Network
-only N h = record {
-  nodes = N .nodes;
-  source = N .source;
-  sink = N .sink;
-  present = record { 0 = h };
-  first = N .first;
-  second = N .second;
-}
+only N h = rewired N h (N .first) (N .second)
 
 abbrev pub without : Network → ℕ → Network
-without N c = only N (N .present .0 ∖ c)
+without N c = only N (present N ∖ c)
 
 pub record Cut (N : Network) (c : ℕ) : Type 0 where
-  pub present : c ⊆ N .present .0
+  pub present : c ⊆ present N
   pub severs : (r : ℕ) → Minpath (without N c) r → ⊥
 
 pub record Mincut (N : Network) (c : ℕ) : Type 0 where

@@ -15,7 +15,7 @@ use Prim.Native.Nat.{ℕ, zero, suc, _^_, _<_}
 use lib.Dec.{eqb}
 use Rattle.bitset.specs.Members.{has, insert, members, _∈_}
 use Rattle.network.specs.declared.Network.{Network}
-use Rattle.network.specs.Record.{firstEnd, secondEnd}
+use Rattle.network.specs.Record.{firstEnd, secondEnd, present}
 use Rattle.graph.specs.Paths.{Joins}
 
 unfoldable pub addIf : Bool → ℕ → ℕ → ℕ
@@ -25,7 +25,7 @@ unfoldable pub across : Network → ℕ → ℕ → ℕ → ℕ
 across N s k t = addIf (has s (firstEnd N k)) (addIf (has s (secondEnd N k)) t (firstEnd N k)) (secondEnd N k)
 
 abbrev pub edgeList : Network → List ℕ
-edgeList N = members 64 (N .present .0)
+edgeList N = members 64 (present N)
 
 unfoldable pub roundOver : Network → List ℕ → ℕ → ℕ
 roundOver N l s = foldr (across N s) s l
@@ -44,5 +44,5 @@ abbrev pub Closed : Network → ℕ → Type 0
 Closed N s = (e u v : ℕ) → Joins N e u v → u ∈ s → v ∈ s
 
 pub record Bounded (N : Network) : Type 0 where
-  pub edges : N .present .0 < 2 ^ 64
+  pub edges : present N < 2 ^ 64
   pub ends : (e u v : ℕ) → Joins N e u v → v < N .nodes

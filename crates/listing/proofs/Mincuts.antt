@@ -12,6 +12,7 @@ use lib.Dec.{T}
 use Rattle.lists.specs.Rising.{Rising}
 use Rattle.bitset.specs.Members.{subsets}
 use Rattle.bitset.proofs.Subsets.{subset-le, mem-subsets, subsets-rising}
+use Rattle.network.specs.Record.{present}
 use Rattle.network.specs.declared.Network.{Network}
 use Rattle.graph.specs.Reach.{Bounded}
 use Rattle.graph.specs.Paths.{Minpath}
@@ -67,7 +68,7 @@ module _ (f : ℕ → Bool) where
 pub mincuts-lists : (N : Network) → Bounded N → Lists N (mincuts N)
 unfolding mincuts
 mincuts-lists N B =
-    let present : ℕ = N .present .0 in
+    let present : ℕ = present N in
     let test = mincutTest-iff N B in record {
       rising = passing-rising (mincutTest N) (subsets 64 present) (subsets-rising 64 present);
       members = λ c. (

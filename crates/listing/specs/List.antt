@@ -17,7 +17,7 @@ use lib.Dec.{ltb, eqb}
 use lib.ListN.{length, drop}
 use Rattle.bitset.specs.Members.{subsets}
 use Rattle.network.specs.declared.Network.{Network}
-use Rattle.network.specs.Record.{_when_, _then_, unlessRefused, faultOf, Stored}
+use Rattle.network.specs.Record.{_when_, _then_, unlessRefused, faultOf, Stored, present}
 use Rattle.graph.specs.Lists.{CompleteList, Outnumber}
 use Rattle.graph.specs.CutTests.{mincutTest}
 use Rattle.graph.specs.Relevant.{sourceSideOf}
@@ -30,7 +30,7 @@ passing f [] = []
 passing f (x ∷ l) = elim (f x) [ true ↦ x ∷ passing f l | false ↦ passing f l ]
 
 unfoldable pub mincuts : Network → List ℕ
-mincuts N = passing (mincutTest N) (subsets 64 (N .present .0))
+mincuts N = passing (mincutTest N) (subsets 64 (present N))
 
 abbrev pub sourceSides : Network → List ℕ
 sourceSides N = map (sourceSideOf N) (mincuts N)

@@ -11,7 +11,7 @@ use lib.Dec.{T, leb, ltb, eqb}
 use Rattle.bitset.specs.Members.{_∈_}
 use Rattle.bitset.proofs.Sets.{∈-dec}
 use Rattle.network.specs.declared.Network.{Network}
-use Rattle.network.specs.Record.{_when_, sizeFault, pairFault, endFault, absentFault, hasEdge, firstEnd, secondEnd, slotFault, faultOf}
+use Rattle.network.specs.Record.{_when_, sizeFault, pairFault, endFault, absentFault, hasEdge, firstEnd, secondEnd, slotFault, faultOf, present}
 use Rattle.network.specs.Rules.{Rules}
 use Rattle.network.proofs.Refusals.{none-then, when-none, none-when, or-none, size-none, pair-none}
 use Rattle.network.proofs.Slots.{Accepted, accepted, accepted-none}
@@ -44,11 +44,11 @@ absent-none a b e =
 -- ---- a slot
 
 -- By whether its edge is present.
-slot-present : (N : Network) (k : ℕ) → k ∈ N .present .0 → slotFault N k ≡ endFault (N .nodes) (firstEnd N k) (secondEnd N k)
+slot-present : (N : Network) (k : ℕ) → k ∈ present N → slotFault N k ≡ endFault (N .nodes) (firstEnd N k) (secondEnd N k)
 unfolding slotFault
 slot-present N k m = ap (λ (b : Bool). cond b (endFault (N .nodes) (firstEnd N k) (secondEnd N k)) (absentFault (firstEnd N k) (secondEnd N k))) (is-true (hasEdge N k) m)
 
-slot-absent : (N : Network) (k : ℕ) → (k ∈ N .present .0 → ⊥) → slotFault N k ≡ absentFault (firstEnd N k) (secondEnd N k)
+slot-absent : (N : Network) (k : ℕ) → (k ∈ present N → ⊥) → slotFault N k ≡ absentFault (firstEnd N k) (secondEnd N k)
 unfolding slotFault
 slot-absent N k n = go (hasEdge N k) n
   where
@@ -67,13 +67,13 @@ fault-rules N = (kept, λ r. accepted-none N (faultless r))
         let a : Accepted N = accepted N e in record {
           size = size-none (N .nodes) (a .size);
           terminals = pair-none 5 6 (N .nodes) (N .source) (N .sink) (omega arith) (omega arith) (a .terminals);
-          present = λ k l m. pair-none 9 10 (N .nodes) (firstEnd N k) (secondEnd N k) (omega arith) (omega arith) (rw (slot-present N k m) at (a .slot-none k l));
+          ends = λ k l m. pair-none 9 10 (N .nodes) (firstEnd N k) (secondEnd N k) (omega arith) (omega arith) (rw (slot-present N k m) at (a .slot-none k l));
           absent = λ k l n. absent-none (firstEnd N k) (secondEnd N k) (rw (slot-absent N k n) at (a .slot-none k l));
         }
 
-    slot-none : Rules N → (k : ℕ) → k < 64 → Dec (k ∈ N .present .0) → slotFault N k ≡ 0
+    slot-none : Rules N → (k : ℕ) → k < 64 → Dec (k ∈ present N) → slotFault N k ≡ 0
     slot-none r k l (yes m) =
-        let p = r .present k l m in
+        let p = r .ends k l m in
         slot-present N k m ∙ none-pair 9 10 (N .nodes) (firstEnd N k) (secondEnd N k) (p .0) (p .1) (p .2)
     slot-none r k l (no n) = let p = r .absent k l n in slot-absent N k n ∙ none-absent (firstEnd N k) (secondEnd N k) (p .0) (p .1)
 
@@ -81,5 +81,5 @@ fault-rules N = (kept, λ r. accepted-none N (faultless r))
     faultless r = record {
       size = none-size (N .nodes) (r .size .0) (r .size .1);
       terminals = none-pair 5 6 (N .nodes) (N .source) (N .sink) (r .terminals .0) (r .terminals .1) (r .terminals .2);
-      slot-none = λ k l. slot-none r k l (∈-dec k (N .present .0));
+      slot-none = λ k l. slot-none r k l (∈-dec k (present N));
     }

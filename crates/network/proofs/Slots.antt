@@ -11,7 +11,7 @@ use lib.Seq.{getD-set-same, getD-set-other}
 use borrow.Author.Tests.{eq-eqb, ne-eqb}
 use Rattle.bitset.proofs.Members.{has-insert, insert-lt}
 use Rattle.network.specs.declared.Network.{Network}
-use Rattle.network.specs.Record.{_then_, Stored, rising, Slot, slot, slotFaultOf, slotFault, slotsFault, sizeFault, terminalFault, faultOf, hasEdge, firstEnd, secondEnd, withEdge}
+use Rattle.network.specs.Record.{_then_, Stored, rising, Slot, slot, slotFaultOf, slotFault, slotsFault, sizeFault, terminalFault, faultOf, hasEdge, firstEnd, secondEnd, withEdge, present}
 use Rattle.network.proofs.Refusals.{then-none, none-then}
 
 abbrev pub empty : Slot
@@ -28,7 +28,7 @@ module _ (N : Network) (stored : Stored N) (k a b : ℕ) (l : k < 64) where
   pub withEdge-same : slot (withEdge N k a b) k ≡ (true, a, b)
   unfolding withEdge
   withEdge-same =
-      let p : hasEdge (withEdge N k a b) k ≡ true = has-insert (N .present .0) k k ∙ ap (λ x. hasEdge N k || x) (eq-eqb k k refl) ∙ or-true (hasEdge N k) in
+      let p : hasEdge (withEdge N k a b) k ≡ true = has-insert (present N) k k ∙ ap (λ x. hasEdge N k || x) (eq-eqb k k refl) ∙ or-true (hasEdge N k) in
       let f : firstEnd (withEdge N k a b) k ≡ a = getD-set-same (N .first) k a 0 (rw (stored .firsts) l) in
       let g : secondEnd (withEdge N k a b) k ≡ b = getD-set-same (N .second) k b 0 (rw (stored .seconds) l) in
       λ i. (p i, f i, g i)
@@ -36,7 +36,7 @@ module _ (N : Network) (stored : Stored N) (k a b : ℕ) (l : k < 64) where
   pub withEdge-other : (j : ℕ) → (j ≡ k → ⊥) → slot (withEdge N k a b) j ≡ slot N j
   unfolding withEdge
   withEdge-other j d =
-      let p : hasEdge (withEdge N k a b) j ≡ hasEdge N j = has-insert (N .present .0) k j ∙ ap (λ x. hasEdge N j || x) (ne-eqb j k d) ∙ or-false (hasEdge N j) in
+      let p : hasEdge (withEdge N k a b) j ≡ hasEdge N j = has-insert (present N) k j ∙ ap (λ x. hasEdge N j || x) (ne-eqb j k d) ∙ or-false (hasEdge N j) in
       let f : firstEnd (withEdge N k a b) j ≡ firstEnd N j = getD-set-other (N .first) k j a 0 d in
       let g : secondEnd (withEdge N k a b) j ≡ secondEnd N j = getD-set-other (N .second) k j b 0 d in
       λ i. (p i, f i, g i)

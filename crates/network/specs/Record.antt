@@ -4,13 +4,17 @@
 --   r then s         r unless it is 0, else s: the first fault decides
 --   unlessRefused r a b      a, or b where r is a refusal: what a call gives, and what lent memory holds after it
 --   sizeFault, pairFault, terminalFault, endFault, absentFault      the rules of the paper's table "Who causes a refusal"
---   slots            the numbers of the 64 edge slots, rising
---   slot N k         what slot k holds
---   slotFault N k    its fault, and slotsFault N k n the first fault of the n slots from k on
+--   rising k n       the n numbers from k on, and slots those of the 64 edge slots
+--   present N        the set of the edges present
+--   hasEdge N k, firstEnd N k, secondEnd N k     whether edge k is present, and its two ends
+--   Slot, slot N k   what slot k holds
+--   slotFaultOf n s, slotFault N k, slotsFault N k n     the fault of a slot, and the first of the n slots from k on
 --   faultOf N        the record's first fault, 0 if it has none; a record is accepted if it is 0
---   noNetwork        the all-zero record
---   bare n s t       the network of n nodes with source s, sink t and no edge
+--   assembled ..     a network from its fields
+--   rewired N ..     N with other edges
+--   bare n s t       the network of n nodes with source s, sink t and no edge; noNetwork the all-zero record
 --   withEdge N k a b N with the edge k from a to b
+--   Stored N         what the types of the code say of any record
 use mathlib.Core.Bool.{Bool, cond, _||_}
 use mathlib.Core.List.{List, [], _∷_, map, foldr}
 use mathlib.Core.Path.{_≡_}
@@ -66,9 +70,13 @@ rising k (suc n) = k ∷ rising (suc k) n
 abbrev pub slots : List ℕ
 slots = rising 0 64
 
+-- The set of the edges present.
+abbrev pub present : Network → ℕ
+present N = N .present .0
+
 -- Edge k is present, and its two ends.
 abbrev pub hasEdge : Network → ℕ → Bool
-hasEdge N k = has (N .present .0) k
+hasEdge N k = has (present N) k
 
 abbrev pub firstEnd : Network → ℕ → ℕ
 firstEnd N k = getD (N .first) k 0
@@ -100,25 +108,32 @@ faultOf N = sizeFault (N .nodes) then terminalFault (N .nodes) (N .source) (N .s
 
 -- ---- records
 
+-- A network from its fields: here alone they are put together.
+abbrev pub assembled : ℕ → ℕ → ℕ → ℕ → List ℕ → List ℕ → Network
+assembled nodes source sink edges first second = record {
+  nodes = nodes;
+  source = source;
+  sink = sink;
+  present = record { 0 = edges };
+  first = first;
+  second = second;
+}
+
+-- The nodes and terminals of N with other edges: those present, and the ends in each slot.
+abbrev pub rewired : Network → ℕ → List ℕ → List ℕ → Network
+rewired N edges first second = assembled (N .nodes) (N .source) (N .sink) edges first second
+
 unfoldable pub bare : ℕ → ℕ → ℕ → Network
-bare n s t =
-    record { nodes = n; source = s; sink = t; present = record { 0 = 0 }; first = replicate 64 0; second = replicate 64 0 }
+bare n s t = assembled n s t 0 (replicate 64 0) (replicate 64 0)
 
 abbrev pub noNetwork : Network
 noNetwork = bare 0 0 0
 
 unfoldable pub withEdge : Network → ℕ → ℕ → ℕ → Network
-withEdge N k a b = record {
-  nodes = N .nodes;
-  source = N .source;
-  sink = N .sink;
-  present = record { 0 = insert (N .present .0) k };
-  first = set (N .first) k a;
-  second = set (N .second) k b;
-}
+withEdge N k a b = rewired N (insert (present N) k) (set (N .first) k a) (set (N .second) k b)
 
 -- What the types of the code say of any record: 64 slots, and no edge past them.
 pub record Stored (N : Network) : Type 0 where
   pub firsts : length (N .first) ≡ 64
   pub seconds : length (N .second) ≡ 64
-  pub edges : N .present .0 < 2 ^ 64
+  pub edges : present N < 2 ^ 64

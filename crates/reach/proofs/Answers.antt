@@ -16,7 +16,7 @@ use Rattle.bitset.proofs.Tests.{T-not, T-then}
 use Rattle.bitset.proofs.Sets.{member-lt}
 use Rattle.bitset.proofs.MemberList.{in-members}
 use Rattle.network.specs.declared.Network.{Network}
-use Rattle.network.specs.Record.{_when_, unlessRefused, faultOf, Stored}
+use Rattle.network.specs.Record.{_when_, unlessRefused, faultOf, Stored, present}
 use Rattle.network.proofs.Refusals.{then-none, none-then, some-then, when-none, none-when, some-when, refused-some}
 use Rattle.graph.specs.Reach.{Bounded}
 use Rattle.graph.specs.Cuts.{Cut, Mincut}
@@ -94,26 +94,26 @@ module _ (N : Network) (c : ℕ) where
   judge-record r fault some = rw (← fault) (some-then r _ (omega arith))
 
   -- An edge that is not present refuses.
-  pub judge-absent : faultOf N ≡ 0 → (c ⊆ N .present .0 → ⊥) → judgeFault N c ≡ 14
+  pub judge-absent : faultOf N ≡ 0 → (c ⊆ present N → ⊥) → judgeFault N c ≡ 14
   unfolding judgeFault
   judge-absent ok out =
       none-then _ ok
-      ∙ some-when 14 (ap not (ne-eqb (bitAnd c (N .present .0)) c (λ e. out (subset-and c (N .present .0) .1 e))))
+      ∙ some-when 14 (ap not (ne-eqb (bitAnd c (present N)) c (λ e. out (subset-and c (present N) .1 e))))
 
   -- A set of present edges of an accepted network is not refused.
-  pub judge-none : faultOf N ≡ 0 → c ⊆ N .present .0 → judgeFault N c ≡ 0
+  pub judge-none : faultOf N ≡ 0 → c ⊆ present N → judgeFault N c ≡ 0
   unfolding judgeFault
   judge-none ok within =
       none-then _ ok
-      ∙ none-when 14 (ap not (eq-eqb (bitAnd c (N .present .0)) c (subset-and c (N .present .0) .0 within)))
+      ∙ none-when 14 (ap not (eq-eqb (bitAnd c (present N)) c (subset-and c (present N) .0 within)))
 
   -- What is not refused is a set of present edges of an accepted network.
-  judge-ok : judgeFault N c ≡ 0 → (faultOf N ≡ 0) × (c ⊆ N .present .0)
+  judge-ok : judgeFault N c ≡ 0 → (faultOf N ≡ 0) × (c ⊆ present N)
   unfolding judgeFault
   judge-ok none =
-      let b : Bool = eqb (bitAnd c (N .present .0)) c in
+      let b : Bool = eqb (bitAnd c (present N)) c in
       let p = then-none (faultOf N) (14 when not b) none in
-      (p .0, subset-and c (N .present .0) .1 (eqb-true _ _ (not-false b (when-none 14 (not b) (zero-lt-suc 13) (p .1)))))
+      (p .0, subset-and c (present N) .1 (eqb-true _ _ (not-false b (when-none 14 (not b) (zero-lt-suc 13) (p .1)))))
 
   -- The verdict beside a refusal is the refusal.
   pub verdict-refused : (r : ℕ) → judgeFault N c ≡ r → (r ≡ 0 → ⊥) → Refused r ≡ verdictOf N c
@@ -125,7 +125,7 @@ module _ (N : Network) (c : ℕ) where
   unfolding verdictOf
   verdict-judged none = rw none
 
-  module _ (ok : faultOf N ≡ 0) (within : c ⊆ N .present .0) where
+  module _ (ok : faultOf N ≡ 0) (within : c ⊆ present N) where
     -- A set that severs nothing is not a cut.
     pub verdict-not-cut : severed N c ≡ false → NotCut ≡ verdictOf N c
     unfolding verdictOn
@@ -153,7 +153,7 @@ mincut-needed N B c k =
     )
 
 -- On a set of present edges the verdict is right.
-on-right : (N : Network) → Bounded N → (c : ℕ) → c ⊆ N .present .0 → Says N c (verdictOn N c)
+on-right : (N : Network) → Bounded N → (c : ℕ) → c ⊆ present N → Says N c (verdictOn N c)
 unfolding verdictOn
 on-right N B c within = go (severed N c) refl (allNeeded N c) refl
   where
@@ -181,7 +181,7 @@ module _ (N : Network) (stored : Stored N) (c : ℕ) where
   verdict-means e = (e, record { stored = stored; says = rw e verdict-right })
 
   -- Of a set of present edges of an accepted network, the verdict is v exactly if what v says holds: exactly one of the three does.
-  pub verdict-iff : faultOf N ≡ 0 → c ⊆ N .present .0 → (v : Verdict) → (verdictOf N c ≡ v) ↔ Says N c v
+  pub verdict-iff : faultOf N ≡ 0 → c ⊆ present N → (v : Verdict) → (verdictOf N c ≡ v) ↔ Says N c v
   verdict-iff ok within v = (λ e. rw e at verdict-right, go (verdictOf N c) v verdict-right)
     where
       accepted : (r : ℕ) → (judgeFault N c ≡ r) × (0 < r) → ⊥

@@ -13,7 +13,7 @@ use Rattle.bitset.proofs.Tests.{T-and}
 use Rattle.bitset.proofs.Sets.{in-minus, in-drop, minus-⊆, member-lt, in-mod}
 use Rattle.bitset.proofs.Results.{single-power, below-ones, with-member, without-minus}
 use Rattle.network.specs.declared.Network.{Network}
-use Rattle.network.specs.Record.{hasEdge, firstEnd, secondEnd}
+use Rattle.network.specs.Record.{hasEdge, firstEnd, secondEnd, present}
 use Rattle.graph.specs.Cuts.{only}
 use Rattle.graph.specs.Reach.{addIf, reachOf, Bounded}
 use Rattle.graph.specs.Relevant.{edgesAt, edgesWithin, past}
@@ -41,8 +41,8 @@ module _ (N : Network) (u : ℕ) where
       )
 
   -- A set of the present edges within u alone is the set of them.
-  pub kept-all : (base t : ℕ) → N .present .0 < 2 ^ 64 → ((v : ℕ) → v ∈ base → ⊥)
-      → ((v : ℕ) → (v ∈ t) ↔ ((v ∈ base) ⊎ ((e : ℕ) × ((e ∈ N .present .0) × Within N u e v)))) → t ≡ edgesWithin N u
+  pub kept-all : (base t : ℕ) → present N < 2 ^ 64 → ((v : ℕ) → v ∈ base → ⊥)
+      → ((v : ℕ) → (v ∈ t) ↔ ((v ∈ base) ⊎ ((e : ℕ) × ((e ∈ present N) × Within N u e v)))) → t ≡ edgesWithin N u
   unfolding edgesWithin
   kept-all base t small none members =
       let test = in-chosen (λ k. hasEdge N k && (has u (firstEnd N k) && has u (secondEnd N k))) 64 in
@@ -52,25 +52,25 @@ module _ (N : Network) (u : ℕ) where
       ⊆-antisym t (edgesWithin N u)
       (λ v m. elim (members v .0 m) [
         | inl i ↦ absurd (none v i)
-        | inr j ↦ rw (j .1 .1 .1) (test (j .0) .1 (member-lt 64 (N .present .0) (j .0) small (j .1 .0), both (j .0) .1 (j .1 .0, j .1 .1 .0)))
+        | inr j ↦ rw (j .1 .1 .1) (test (j .0) .1 (member-lt 64 (present N) (j .0) small (j .1 .0), both (j .0) .1 (j .1 .0, j .1 .1 .0)))
       ])
       (λ v m. let p = both v .0 (test v .0 m .1) in members v .1 (inr (v, (p .0, (p .1, refl)))))
 
 -- ---- past a node
 
 -- The edges within all other nodes are those that are not at c.
-pub others-edges : (N : Network) → Bounded N → (c : ℕ) → edgesWithin N ((2 ^ N .nodes - 1) ∖ 2 ^ c) ≡ N .present .0 ∖ edgesAt N c
+pub others-edges : (N : Network) → Bounded N → (c : ℕ) → edgesWithin N ((2 ^ N .nodes - 1) ∖ 2 ^ c) ≡ present N ∖ edgesAt N c
 others-edges N B c =
     let others : ℕ = (2 ^ N .nodes - 1) ∖ 2 ^ c in
     let within = in-edgesWithin N B others in
     let at = in-edgesAt N B c in
-    ⊆-antisym (edgesWithin N others) (N .present .0 ∖ edgesAt N c)
+    ⊆-antisym (edgesWithin N others) (present N ∖ edgesAt N c)
     (λ e m.
     let w = within e .0 m in
-    in-minus (N .present .0) (edgesAt N c) e .1
+    in-minus (present N) (edgesAt N c) e .1
     (w .0, λ i. let j = at e .0 i in in-drop (2 ^ N .nodes - 1) c c .0 (w .1 c (j .0) (j .1)) .1 refl))
     (λ e m.
-    let p = in-minus (N .present .0) (edgesAt N c) e .0 m in
+    let p = in-minus (present N) (edgesAt N c) e .0 m in
     within e .1 (
       p .0,
       λ x y j. in-drop (2 ^ N .nodes - 1) c x .1
@@ -84,10 +84,10 @@ module _ (N : Network) (S : Sound N) (c : ℕ) (h : c < N .nodes) (all others ed
     (is-source : (j : ℕ) → has source j ≡ eqb j (N .source) && ltb (N .source) 32)
     (is-terminals : (j : ℕ) → has terminals j ≡ has source j || (eqb j (N .sink) && ltb (N .sink) 32))
     (is-start : (j : ℕ) → has start j ≡ has terminals j && not (eqb j c))
-    (is-reached : edges ⊆ N .present .0 → reached ≡ reachOf (only N edges) start)
+    (is-reached : edges ⊆ present N → reached ≡ reachOf (only N edges) start)
     (is-r : (j : ℕ) → has r j ≡ has reached j || (eqb j c && ltb c 32)) where
   -- The spread is over the edges that are not at c.
-  past-edges : edges ≡ N .present .0 ∖ edgesAt N c
+  past-edges : edges ≡ present N ∖ edgesAt N c
   past-edges =
       is-edges
       ∙ ap (edgesWithin N) (without-minus all c others is-others ∙ ap (λ x. x ∖ 2 ^ c) (below-ones 32 (N .nodes) all (S .small) is-all))
@@ -105,5 +105,5 @@ module _ (N : Network) (S : Sound N) (c : ℕ) (h : c < N .nodes) (all others ed
   pub past-made : r ≡ past N c
   unfolding past
   past-made =
-      let fits = is-reached (rw past-edges (minus-⊆ (N .present .0) (edgesAt N c))) in
+      let fits = is-reached (rw past-edges (minus-⊆ (present N) (edgesAt N c))) in
       with-member 32 reached c r (omega (arith, S .small)) is-r ∙ ap (λ x. insert x c) (rw (← past-edges, ← past-start) fits)

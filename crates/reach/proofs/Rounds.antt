@@ -8,6 +8,7 @@ use lib.Arith.{lt-of-le-ne}
 use Rattle.bitset.specs.Members.{_⊆_, _∈_}
 use Rattle.bitset.proofs.Subsets.{⊆-antisym, subset-le}
 use Rattle.bitset.proofs.Sets.{member-lt, in-mod}
+use Rattle.network.specs.Record.{present}
 use Rattle.network.specs.declared.Network.{Network}
 use Rattle.graph.specs.Paths.{Joins}
 use Rattle.graph.specs.Cuts.{only}
@@ -23,7 +24,7 @@ BesideFits N s e v = (v < 32) × Beside N s e v
 
 module _ (N : Network) (s : ℕ) where
   -- An edge adds the nodes that it joins to nodes of s and that fit.
-  pub in-across-fits : (k t : ℕ) → k ∈ N .present .0 → t < 2 ^ 32
+  pub in-across-fits : (k t : ℕ) → k ∈ present N → t < 2 ^ 32
       → (v : ℕ) → (v ∈ (across N s k t % 2 ^ 32)) ↔ ((v ∈ t) ⊎ BesideFits N s k v)
   in-across-fits k t there small v =
       let word = in-mod 32 (across N s k t) v in
@@ -32,9 +33,9 @@ module _ (N : Network) (s : ℕ) where
         λ c. word .1 (elim c [ inl i ↦ (member-lt 32 t v small i, over .1 (inl i)) | inr j ↦ (j .0, over .1 (inr (j .1))) ]),
       )
 
-  module _ (edges : N .present .0 < 2 ^ 64) (small : s < 2 ^ 32) where
+  module _ (edges : present N < 2 ^ 64) (small : s < 2 ^ 32) where
     -- A set that has s and what each edge adds is the round, as far as it fits.
-    pub round-fits : (t : ℕ) → ((v : ℕ) → (v ∈ t) ↔ ((v ∈ s) ⊎ ((e : ℕ) × ((e ∈ N .present .0) × BesideFits N s e v))))
+    pub round-fits : (t : ℕ) → ((v : ℕ) → (v ∈ t) ↔ ((v ∈ s) ⊎ ((e : ℕ) × ((e ∈ present N) × BesideFits N s e v))))
         → t ≡ round N s % 2 ^ 32
     unfolding Joins
     round-fits t members =
@@ -60,7 +61,7 @@ module _ (N : Network) (s : ℕ) where
 
 -- ---- the rounds
 
-module _ (N : Network) (S : Sound N) (h : ℕ) (l : h ⊆ N .present .0) where
+module _ (N : Network) (S : Sound N) (h : ℕ) (l : h ⊆ present N) where
   -- The edges of h keep the bounds.
   bounds : Bounded (only N h)
   bounds = bounded-only N (S .bounded) h l

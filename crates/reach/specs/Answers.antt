@@ -16,7 +16,7 @@ use lib.Bits.{bitAnd}
 use lib.Dec.{eqb}
 use Rattle.bitset.specs.Members.{_∈_}
 use Rattle.network.specs.declared.Network.{Network}
-use Rattle.network.specs.Record.{_when_, _then_, unlessRefused, faultOf, Stored}
+use Rattle.network.specs.Record.{_when_, _then_, unlessRefused, faultOf, Stored, present}
 use Rattle.graph.specs.Cuts.{Cut, Mincut, RelevantEdge, RelevantNode}
 use Rattle.graph.specs.CutTests.{severed, allNeeded}
 use Rattle.graph.specs.Relevant.{relevantNodes, relevantEdges}
@@ -41,7 +41,7 @@ pub record PartMeans (N : Network) (r n e : ℕ) : Type 0 where
 -- ---- judging
 
 unfoldable pub judgeFault : Network → ℕ → ℕ
-judgeFault N c = faultOf N then 14 when not (eqb (bitAnd c (N .present .0)) c)
+judgeFault N c = faultOf N then 14 when not (eqb (bitAnd c (present N)) c)
 
 -- The verdict on a set of present edges of an accepted network.
 unfoldable pub verdictOn : Network → ℕ → Verdict

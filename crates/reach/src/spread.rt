@@ -5,7 +5,7 @@ use node_set::NodeSet;
 ghost use mathlib.Core.Path.{_≡_};
 ghost use Prim.Native.Nat.{_%_, _^_};
 ghost use Rattle.bitset.specs.Members.{has, _⊆_};
-ghost use Rattle.network.specs.Record.{faultOf};
+ghost use Rattle.network.specs.Record.{faultOf, present};
 ghost use Rattle.graph.specs.Cuts.{only};
 ghost use Rattle.graph.specs.Reach.{addIf, round, reachOf};
 
@@ -47,7 +47,7 @@ fn round(network: Network, edges: EdgeSet, reached: NodeSet) -> NodeSet
 
 // The nodes that a node of `start` is connected to over the edges of the set, a set of present edges of an accepted network.
 pub(crate) fn reach(network: Network, edges: EdgeSet, start: NodeSet) -> NodeSet
-    ensures { λ r. ⌜ (faultOf network ≡ 0 → edges .0 ⊆ network .present .0 → r .0 ≡ reachOf (only network (edges .0)) (start .0)) ⌝ }
+    ensures { λ r. ⌜ (faultOf network ≡ 0 → edges .0 ⊆ present network → r .0 ≡ reachOf (only network (edges .0)) (start .0)) ⌝ }
 {
     let mut spread = start;
     let reached = loop {

@@ -14,7 +14,7 @@ use Rattle.enumeration.proofs.enumerate.Tie as tie
 
 -- An accepted network is sound.
 sound : (c : tie.Start) → Sound (c .args .network)
-sound c = accepted-sound (c .args .network) (record { firsts = search needs; seconds = search needs; edges = search needs }) (c .pre .0)
+sound c = accepted-sound (c .args .network) (search needs) (c .pre .0)
 
 fill-tables-requires : tie.Need-fill-tables-requires
 fill-tables-requires c κs =

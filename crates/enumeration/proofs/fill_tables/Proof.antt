@@ -66,7 +66,7 @@ ends : (c : tie.Else1 Inv-loop μ-loop)
 ends c =
     let s = c .before .before .before in
     let N = s .args .t1 in
-    let S = accepted-sound N (record { firsts = search needs; seconds = search needs; edges = search needs }) (s .pre .0) in
+    let S = accepted-sound N (search needs) (s .pre .0) in
     let member = passes _ (c .before .lowest .ensures .member (c .if1 .left)) in
     ends-fit N S (c .before .lowest .result) (s .pre .1 _ (c .before .before .loop .inv .0 _ member))
 

@@ -18,7 +18,7 @@ use Rattle.listing.proofs.lister.list.Tie as tie
 
 -- What the types say of the record.
 stored : (c : tie.Start) → Stored (c .args .network)
-stored c = record { firsts = search needs; seconds = search needs; edges = search needs }
+stored c = search needs
 
 relevant-requires : tie.Need-relevant-requires
 relevant-requires c κs = search needs

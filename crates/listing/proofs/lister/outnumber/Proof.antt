@@ -24,7 +24,7 @@ always-enough-requires c κs = search needs
 returns : tie.Need-returns
 returns c =
     let a = c .before .before .before .args in
-    let stored : Stored (a .network) = record { firsts = search needs; seconds = search needs; edges = search needs } in
+    let stored : Stored (a .network) = search needs in
     let most : 2 ^ (size 32 (a .nodes .0) - 2) ≤ a .lent = rw (c .before .before .size .ensures) at (c .before .always-enough .ensures (c .if1 .taken)) in
     let bound = rw (← c .before .before .before .pre .1) at (rows-at-most (a .network) (accepted-sound (a .network) stored (c .before .before .before .pre .0))) in
     sym (le-ltb (a .lent) (length (rows (a .network))) (le-trans bound most))

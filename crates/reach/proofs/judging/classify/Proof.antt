@@ -12,7 +12,7 @@ use Rattle.reach.proofs.judging.classify.Tie as tie
 
 -- What the types say of the record.
 stored : (c : tie.Start) → Stored (c .args .network)
-stored c = record { firsts = search needs; seconds = search needs; edges = search needs }
+stored c = search needs
 
 fault-requires : tie.Need-fault-requires
 fault-requires c κs = search needs

@@ -3,6 +3,7 @@
 use native.Mathlib.Omega.{arith}
 use Rattle.bitset.proofs.Sets.{minus-⊆}
 use Rattle.bitset.proofs.Results.{single-power, difference-minus}
+use Rattle.network.specs.Record.{present}
 use Rattle.graph.specs.CutTests.{severed}
 use Rattle.graph.proofs.Sound.{accepted-sound}
 use borrow.Author.Needs.{needs}
@@ -33,10 +34,10 @@ returns c =
     let a = c .before .before .before .before .before .before .before .args in
     let N = a .network in
     let ok = c .before .before .before .before .before .before .before .pre in
-    let S = accepted-sound N (record { firsts = search needs; seconds = search needs; edges = search needs }) ok in
-    let over = difference-minus (N .present .0) (a .set .0) _ (c .before .before .before .before .before .difference .ensures) in
+    let S = accepted-sound N (search needs) ok in
+    let over = difference-minus (present N) (a .set .0) _ (c .before .before .before .before .before .difference .ensures) in
     let from = single-power 32 (N .source) _ (omega (arith, S .source-lt, S .small)) (c .before .before .before .single .ensures) in
-    let reached = c .before .before .reach .ensures ok (rw over (minus-⊆ (N .present .0) (a .set .0))) in
+    let reached = c .before .before .reach .ensures ok (rw over (minus-⊆ (present N) (a .set .0))) in
     rw (c .contains .ensures, reached, over, from)
 
 pub severed-spec : {M : Type 1} → statement M

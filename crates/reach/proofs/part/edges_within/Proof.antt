@@ -3,13 +3,14 @@
 use Prim.Native.Nat.{_^_, _<_}
 use borrow.Author.Needs.{needs}
 use Rattle.bitset.proofs.Scans.{Less, less-lowest, less-lt, none-left, Gathered, gathered-first, gathered-next, gathered-last}
+use Rattle.network.specs.Record.{present}
 use Rattle.reach.proofs.Nodes.{Within, in-kept, kept-all}
 use Rattle.reach.proofs.part.edges_within.Statement.{statement}
 use Rattle.reach.proofs.part.edges_within.Tie as tie
 
 abbrev Inv-loop : tie.InvT-loop
 Inv-loop nodes network within₀ left₀ within left =
-    (within .0 < 2 ^ 64) × Gathered (Within network (nodes .0)) (within₀ .0) (network .present .0) (left .0) (within .0)
+    (within .0 < 2 ^ 64) × Gathered (Within network (nodes .0)) (within₀ .0) (present network) (left .0) (within .0)
 
 abbrev μ-loop : tie.MeasureT-loop
 μ-loop nodes network within₀ left₀ within left = left .0

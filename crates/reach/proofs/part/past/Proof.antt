@@ -41,7 +41,7 @@ with-requires-2 c κs = search needs
 
 -- The network is sound.
 sound : (c : tie.Start) → Sound (c .args .network)
-sound c = accepted-sound (c .args .network) (record { firsts = search needs; seconds = search needs; edges = search needs }) (c .pre .0)
+sound c = accepted-sound (c .args .network) (search needs) (c .pre .0)
 
 returns : tie.Need-returns
 returns c =

@@ -28,7 +28,7 @@ loop-holds : tie.Need-loop-holds Inv-loop μ-loop
 unfolding pastAll
 loop-holds c =
     let N = c .before .before .args .network in
-    let S = accepted-sound N (record { firsts = search needs; seconds = search needs; edges = search needs }) (c .before .before .pre) in
+    let S = accepted-sound N (search needs) (c .before .before .pre) in
     (omega arith, below-ones 32 (N .nodes) _ (S .small) (c .below .ensures))
 
 past-requires : tie.Need-past-requires Inv-loop μ-loop

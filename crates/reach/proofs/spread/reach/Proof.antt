@@ -6,7 +6,7 @@ use native.Mathlib.Omega.{arith}
 use borrow.Author.Needs.{needs}
 use borrow.Author.Tests.{eqb-true, eqb-false}
 use Rattle.bitset.specs.Members.{_⊆_}
-use Rattle.network.specs.Record.{faultOf}
+use Rattle.network.specs.Record.{faultOf, present}
 use Rattle.graph.specs.Cuts.{only}
 use Rattle.graph.specs.Reach.{reachOf}
 use Rattle.graph.proofs.Sound.{Sound, accepted-sound}
@@ -18,14 +18,14 @@ abbrev Inv-loop : tie.InvT-loop
 Inv-loop network edges spread₀ spread =
     (spread .0 < 2 ^ 32)
     × (spread₀ .0 ⊆ spread .0)
-    × (faultOf network ≡ 0 → edges .0 ⊆ network .present .0 → spread .0 ⊆ reachOf (only network (edges .0)) (spread₀ .0))
+    × (faultOf network ≡ 0 → edges .0 ⊆ present network → spread .0 ⊆ reachOf (only network (edges .0)) (spread₀ .0))
 
 abbrev μ-loop : tie.MeasureT-loop
 μ-loop network edges spread₀ spread = 2 ^ 32 - spread .0
 
 -- An accepted network is sound.
 sound : (c : tie.Start Inv-loop μ-loop) → faultOf (c .args .network) ≡ 0 → Sound (c .args .network)
-sound c = accepted-sound (c .args .network) (record { firsts = search needs; seconds = search needs; edges = search needs })
+sound c = accepted-sound (c .args .network) (search needs)
 
 loop-holds : tie.Need-loop-holds Inv-loop μ-loop
 loop-holds c = (search needs, λ k m. m, λ ok l. spread-first (c .args .network) (sound c ok) (c .args .edges .0) l (c .args .start .0))

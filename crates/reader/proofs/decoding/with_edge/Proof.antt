@@ -2,12 +2,13 @@
 -- Assumes nothing.
 use mathlib.Core.Path.{_≡_, sym, ap, _∙_}
 use mathlib.Core.Bool.{_||_, _&&_, and-true}
+use Prim.Native.Nat.{ℕ}
 use lib.Dec.{eqb}
 use lib.ListN.{set}
 use borrow.Author.Tests.{lt-ltb}
 use Rattle.bitset.specs.Members.{has, insert}
 use Rattle.bitset.proofs.Members.{has-insert, same-members}
-use Rattle.network.specs.Record.{withEdge}
+use Rattle.network.specs.Record.{rewired, withEdge, present}
 use borrow.Author.Needs.{needs}
 use Rattle.reader.proofs.decoding.with_edge.Statement.{statement}
 use Rattle.reader.proofs.decoding.with_edge.Tie as tie
@@ -26,21 +27,14 @@ unfolding withEdge
 returns c =
     let a = c .before .before .args in
     let N = a .network in
-    let p = N .present .0 in
+    let p = present N in
     let grown : c .with .result .0 ≡ insert p (a .edge) =
     same-members _ _ (λ j.
     c .with .ensures j
     ∙ ap (λ x. has p j || (eqb j (a .edge) && x)) (lt-ltb (a .edge) 64 (c .before .before .pre))
     ∙ ap (λ x. has p j || x) (and-true (eqb j (a .edge)))
     ∙ sym (has-insert p (a .edge) j)) in
-    λ i. record {
-      nodes = N .nodes;
-      source = N .source;
-      sink = N .sink;
-      present = record { 0 = grown i };
-      first = set (N .first) (a .edge) (a .first);
-      second = set (N .second) (a .edge) (a .second);
-    }
+    ap (λ (edges : ℕ). rewired N edges (set (N .first) (a .edge) (a .first)) (set (N .second) (a .edge) (a .second))) grown
 
 pub with-edge-spec : {M : Type 1} → statement M
 with-edge-spec = tie.close (tie.spec with-requires element-write-next element-write-next-2 returns)
