@@ -1,5 +1,4 @@
 -- The laws of sets kept in numbers, each stated once for every width.
-pub mod Tests
 pub mod Members
 pub mod Subsets
 pub mod Size
@@ -8,3 +7,4 @@ pub mod Sets
 pub mod MemberList
 pub mod Results
 pub mod Scans
+pub mod Families

@@ -1,3 +1,4 @@
 -- The definitions that the contracts of `bitset` cite.
 pub mod Decides
 pub mod Members
+pub mod Families

@@ -9,7 +9,7 @@ use lib.Dec.{T, eqb, ltb, ltb→lt, lt→ltb}
 use Rattle.bitset.specs.Members.{has, _⊆_, insert, _∈_}
 use Rattle.bitset.proofs.Members.{same-members, has-xor, has-insert}
 use Rattle.bitset.proofs.Subsets.{same-test, ⊆-insert}
-use Rattle.bitset.proofs.Tests.{T-and, T-eqb}
+use Rattle.lists.proofs.Tests.{T-and, T-eqb}
 use Rattle.bitset.proofs.Sets.{in-insert, in-single, same-set, in-or}
 use Rattle.network.specs.declared.Network.{Network}
 use Rattle.network.specs.Record.{firstEnd, secondEnd, present}

@@ -13,7 +13,7 @@ use lib.ListN.{length, length-append}
 use Rattle.lists.specs.Distinct.{Distinct}
 use Rattle.bitset.specs.Members.{has, _⊆_, _∈_}
 use Rattle.bitset.proofs.Subsets.{subset-and}
-use Rattle.bitset.proofs.Tests.{T-eqb}
+use Rattle.lists.proofs.Tests.{T-eqb}
 use Rattle.bitset.proofs.Sets.{∈-dec, in-insert}
 use Rattle.network.specs.declared.Network.{Network}
 use Rattle.graph.specs.Cuts.{only}

@@ -10,6 +10,7 @@ use borrow.Author.Tests.{lt-ltb, le-ltb}
 use lib.Bits.{bitAnd}
 use lib.ListN.{length, drop, length-append, length-drop, length-map}
 use lib.Seq.{drop-at}
+use Rattle.lists.specs.Words.{onto}
 use Rattle.bitset.specs.Members.{_⊆_}
 use Rattle.bitset.proofs.Subsets.{subset-and}
 use Rattle.network.specs.declared.Network.{Network}
@@ -31,7 +32,7 @@ use Rattle.reach.specs.declared.Verdict.the-variants.{NotCut, NotMinimal, Minim
 use Rattle.reach.specs.Answers.{relevantOf, judgeFault, verdictOf, Says, told}
 use Rattle.reach.proofs.Answers.{part-refused, part-accepted, judge-record, judge-absent, judge-none, verdict-refused, verdict-right}
 use Rattle.listing.specs.declared.Listed.{Listed}
-use Rattle.listing.specs.List.{mincuts, sourceSides, onto, listRefusal, listedBy, cutRowsAfter, sideRowsAfter}
+use Rattle.listing.specs.List.{mincuts, sourceSides, listRefusal, listedBy, cutRowsAfter, sideRowsAfter}
 use Rattle.listing.proofs.Refusals.{Case, faulty, unpaired, outnumbered, complete, call-case, refusal-none}
 use Rattle.listing.proofs.Call.{Answered, answered-faulty, answered-unpaired, answered-outnumbered, answer-refusal, complete-call}
 use Rattle.listing.proofs.Meaning.{outnumber-iff, call-complete, call-outnumbered}

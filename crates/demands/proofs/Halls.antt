@@ -8,9 +8,11 @@ use Prim.Native.Nat.{ℕ, _^_, _<_}
 use native.Mathlib.Omega.{arith}
 use lib.Dec.{T, eqb}
 use lib.ListN.{length, getD}
+use Rattle.lists.specs.Words.{every, passing}
+use Rattle.lists.proofs.Words.{T-every}
 use Rattle.lists.proofs.Places.{mem-at}
 use Rattle.bitset.specs.Members.{has, insert, _∖_, size, subsets, membersFrom}
-use Rattle.bitset.proofs.Tests.{T-and, T-eqb}
+use Rattle.lists.proofs.Tests.{T-and, T-eqb}
 use Rattle.network.specs.declared.Network.{Network}
 use Rattle.network.specs.Record.{_when_, _then_, sizeFault, pairFault, bare, withEdge}
 use Rattle.format.specs.Format.{numberFault, sizeRefusal, terminalsRefusal, edgeRefusal, endRefusal, sizeStep, terminalsStep, edgeStep, ifTaken, edges, decodeOf}
@@ -19,14 +21,13 @@ use Rattle.lists.specs.Counts.{countIf}
 use Rattle.widths.specs.Widths.{tabulate, widthsOf}
 use Rattle.graph.specs.Cuts.{only, Cut, Mincut}
 use Rattle.graph.specs.Reach.{addIf, across, roundOver, rounds, reachOf}
-use Rattle.graph.specs.CutTests.{severed, every, cutTest, allNeeded, mincutTest}
+use Rattle.graph.specs.CutTests.{severed, cutTest, allNeeded, mincutTest}
 use Rattle.graph.specs.Relevant.{chosen, edgesAt, edgesWithin, past, pastAll, relevantNodes, relevantEdges, sourceSideOf}
-use Rattle.graph.proofs.Tests.{T-every}
 use Rattle.graph.proofs.Sound.{Sound, accepted-sound}
 use Rattle.graph.proofs.Reach.{in-reach-single}
 use Rattle.graph.proofs.Cuts.{cutTest-iff, mincutTest-iff}
 use Rattle.graph.proofs.Relevant.{in-relevantNodes, in-relevantEdges}
-use Rattle.listing.specs.List.{passing, mincuts, sourceSides}
+use Rattle.listing.specs.List.{mincuts, sourceSides}
 use Rattle.demands.specs.Halls.{Judged, Hall, bridge, barCable, spur, hangingTriangle, noCable, twoCables, inARow, exchanged, halls, networkOf, widthTable, same, judgedTest, hallTests, hallTest, Established}
 use Rattle.text.specs.Text.{digits, decimal, spaced, numbers, lineOf, wordLine, rowLines, listText}
 use Rattle.report.specs.Report.{listReport, reportOf}

@@ -18,6 +18,7 @@ use mathlib.Core.Path.{_≡_}
 use Prim.Native.Nat.{ℕ, _-_, _^_}
 use lib.Dec.{T, eqb}
 use lib.ListN.{length, replicate}
+use Rattle.lists.specs.Words.{every}
 use Rattle.bitset.specs.Members.{_∈_}
 use Rattle.network.specs.declared.Network.{Network}
 use Rattle.format.specs.Format.{decodeOf}
@@ -26,7 +27,7 @@ use Rattle.graph.specs.Paths.{Connected}
 use Rattle.graph.specs.Cuts.{Cut, Mincut, RelevantEdge, RelevantNode}
 use Rattle.graph.specs.Lists.{CompleteList}
 use Rattle.graph.specs.Reach.{reachOf}
-use Rattle.graph.specs.CutTests.{every, cutTest, mincutTest}
+use Rattle.graph.specs.CutTests.{cutTest, mincutTest}
 use Rattle.graph.specs.Relevant.{relevantNodes, relevantEdges}
 use Rattle.listing.specs.List.{mincuts, sourceSides}
 use Rattle.text.specs.Ascii.{bytes}

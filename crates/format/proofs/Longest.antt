@@ -4,7 +4,8 @@ use mathlib.Core.List.{List, [], _∷_, _++_, flatMap}
 use mathlib.Core.Path.{_≡_, refl}
 use Prim.Native.Nat.{ℕ, _≤_}
 use lib.ListN.{length}
-use Rattle.network.specs.Record.{_when_, _then_, rising, slots, sizeFault, pairFault, bare, withEdge}
+use Rattle.lists.specs.Words.{range}
+use Rattle.network.specs.Record.{_when_, _then_, slots, sizeFault, pairFault, bare, withEdge}
 use Rattle.format.specs.Format.{ifTaken, edges, decodeOf, sizeStep, sizeRefusal, terminalsStep, terminalsRefusal, edgeStep, edgeRefusal, endRefusal, numberFault}
 use Rattle.format.proofs.Reading.{accepts, decode-plan}
 use Rattle.format.proofs.Writing.{encode-length}
@@ -20,9 +21,9 @@ pub longest : List ℕ
 longest = 0x50 ∷ 2 ∷ 0x53 ∷ 0 ∷ 1 ∷ (flatMap (λ k. 0x43 ∷ k ∷ 0 ∷ 1 ∷ []) slots ++ 0x45 ∷ [])
 
 pub longest-length : length longest ≡ 262
-unfolding longest flatMap rising
+unfolding longest flatMap range
 longest-length = refl
 
 pub longest-accepted : decodeOf longest .refusal ≡ 0
-unfolding longest flatMap rising decodeOf ifTaken edges sizeStep sizeRefusal terminalsStep terminalsRefusal edgeStep edgeRefusal endRefusal numberFault sizeFault pairFault bare withEdge _when_ _then_
+unfolding longest flatMap range decodeOf ifTaken edges sizeStep sizeRefusal terminalsStep terminalsRefusal edgeStep edgeRefusal endRefusal numberFault sizeFault pairFault bare withEdge _when_ _then_
 longest-accepted = refl

@@ -8,9 +8,10 @@ use native.Mathlib.Nat.{le-refl}
 use native.Mathlib.Decide.{ℕ-discrete}
 use native.Mathlib.Omega.{arith}
 use lib.ListN.{length, drop, getD-replicate}
+use Rattle.lists.specs.Words.{range}
 use Rattle.bitset.proofs.Members.{has-zero}
 use Rattle.network.specs.declared.Network.{Network}
-use Rattle.network.specs.Record.{Stored, Slot, slot, rising, slotFault, endFault, absentFault, faultOf, bare, withEdge, hasEdge, firstEnd, secondEnd, noNetwork}
+use Rattle.network.specs.Record.{Stored, Slot, slot, slotFault, endFault, absentFault, faultOf, bare, withEdge, hasEdge, firstEnd, secondEnd, noNetwork}
 use Rattle.network.proofs.Rules.{fault-rules}
 use Rattle.network.proofs.Slots.{empty, slotFault-of, withEdge-same, withEdge-other, withEdge-stored, accepted-none}
 use Rattle.format.specs.declared.Decoded.{Decoded}
@@ -26,7 +27,7 @@ EmptyFrom N next = (j : ℕ) → next ≤ j → j < 64 → slot N j ≡ empty
 
 -- What it means that M was read into N from the bytes s, which held the slots from `next` on, `left` of them.
 record Read (N M : Network) (next left : ℕ) (s : List ℕ) : Type 0 where
-  bytes : s ≡ flatMap (edgeCommand M) (rising next left) ++ 0x45 ∷ []
+  bytes : s ≡ flatMap (edgeCommand M) (range next left) ++ 0x45 ∷ []
   nodes : M .nodes ≡ N .nodes
   source : M .source ≡ N .source
   sink : M .sink ≡ N .sink
@@ -36,7 +37,7 @@ record Read (N M : Network) (next left : ℕ) (s : List ℕ) : Type 0 where
 
 -- At the end nothing more is read.
 read-end : (N : Network) (next left : ℕ) → next + left ≡ 64 → Stored N → EmptyFrom N next → Read N N next left (0x45 ∷ [])
-unfolding flatMap rising
+unfolding flatMap range
 read-end N next left e stored none = record {
   bytes = ap (λ c. c ++ 0x45 ∷ []) (sym (commands-skip N next left 64 0 (omega arith) (omega arith) (λ j h l. ap (λ (x : Slot). x .0) (none j h l))));
   nodes = refl;
@@ -55,7 +56,7 @@ empty-later N stored next k a b h l none j p q = withEdge-other N stored k a b l
 read-edge : (N M : Network) (next left k a b left′ : ℕ) (s : List ℕ) → next + left ≡ 64 → suc k + left′ ≡ 64 → Stored N → EmptyFrom N next
     → next ≤ k → k < 64 → endFault (N .nodes) a b ≡ 0 → Read (withEdge N k a b) M (suc k) left′ s
     → Read N M next left (0x43 ∷ k ∷ a ∷ b ∷ s)
-unfolding flatMap rising withEdge slotFault
+unfolding flatMap range withEdge slotFault
 read-edge N M next left k a b left′ s e e′ stored none h l f r =
     let N′ : Network = withEdge N k a b in
     let here : slot M k ≡ (true, a, b) = r .before k (omega arith) ∙ withEdge-same N stored k a b l in
@@ -64,7 +65,7 @@ read-edge N M next left k a b left′ s e e′ stored none h l f r =
     record {
       bytes =
           ap (λ c. 0x43 ∷ k ∷ a ∷ b ∷ c) (r .bytes)
-          ∙ ap (λ c. (c ++ flatMap (edgeCommand M) (rising (suc k) left′)) ++ 0x45 ∷ []) (sym (command-of M k here))
+          ∙ ap (λ c. (c ++ flatMap (edgeCommand M) (range (suc k) left′)) ++ 0x45 ∷ []) (sym (command-of M k here))
           ∙ ap (λ c. c ++ 0x45 ∷ []) (sym (commands-skip M next left k (suc left′) h (omega arith) between));
       nodes = r .nodes;
       source = r .source;

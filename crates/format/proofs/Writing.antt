@@ -12,10 +12,11 @@ use lib.Dec.{ltb, eqb}
 use lib.ListN.{length, getD, take, drop, set, replicate, length-append, length-drop}
 use lib.Seq.{take-suc, take-all, length-take-le, set-at, append-snoc, sets, sets-eq, drop-drop, drop-at, take-at, take-add, take-append-seam, drop-append-seam}
 use borrow.Author.Tests.{lt-ltb, le-ltb, eq-eqb, ne-eqb, ltb-false}
+use Rattle.lists.specs.Words.{range}
 use Rattle.bitset.specs.Members.{has, insert, size}
 use Rattle.bitset.proofs.Members.{has-insert, has-mod, same-members}
 use Rattle.network.specs.declared.Network.{Network}
-use Rattle.network.specs.Record.{rewired, Stored, Slot, slot, rising, slots, slotFault, endFault, absentFault, faultOf, bare, withEdge, hasEdge, firstEnd, secondEnd, present}
+use Rattle.network.specs.Record.{rewired, Stored, Slot, slot, slots, slotFault, endFault, absentFault, faultOf, bare, withEdge, hasEdge, firstEnd, secondEnd, present}
 use Rattle.network.proofs.Refusals.{when-none, or-none}
 use Rattle.network.proofs.Slots.{empty, accepted}
 use Rattle.format.specs.Format.{accept, edges, decodeOf, commandOf, edgeCommand, encodeOf, WrittenTo}
@@ -126,15 +127,15 @@ slot-cases N k z false e =
 
 -- The commands of the n slots from k on, and the end.
 pub rest : Network → ℕ → ℕ → List ℕ
-rest N k n = flatMap (edgeCommand N) (rising k n) ++ 0x45 ∷ []
+rest N k n = flatMap (edgeCommand N) (range k n) ++ 0x45 ∷ []
 
 rest-edge : (N : Network) (k n : ℕ) → hasEdge N k ≡ true → rest N k (suc n) ≡ 0x43 ∷ k ∷ firstEnd N k ∷ secondEnd N k ∷ rest N (suc k) n
-unfolding rest flatMap rising edgeCommand
+unfolding rest flatMap range edgeCommand
 rest-edge N k n e = rw e
 
 rest-absent : (N : Network) (k n : ℕ) → slot N k ≡ empty → rest N k (suc n) ≡ rest N (suc k) n
-unfolding rest flatMap rising
-rest-absent N k n e = ap (λ c. (c ++ flatMap (edgeCommand N) (rising (suc k) n)) ++ 0x45 ∷ []) (command-absent N k (ap (λ (x : Slot). x .0) e))
+unfolding rest flatMap range
+rest-absent N k n e = ap (λ c. (c ++ flatMap (edgeCommand N) (range (suc k) n)) ++ 0x45 ∷ []) (command-absent N k (ap (λ (x : Slot). x .0) e))
 
 module _ (N : Network) (stored : Stored N) (sound : (k : ℕ) → k < 64 → slotFault N k ≡ 0) where
   -- The commands of N from slot k on, read into the edges below k, give N.
@@ -143,7 +144,7 @@ module _ (N : Network) (stored : Stored N) (sound : (k : ℕ) → k < 64 → slo
       (k next turns : ℕ) → k + left ≡ 64 → next ≤ k → length (rest N k left) ≤ turns → edges turns (below N k) next (rest N k left) ≡ accept N
 
   read-none : ReadFrom 0
-  unfolding rest flatMap rising
+  unfolding rest flatMap range
   read-none k next zero e h t = absurd (omega arith)
   read-none k next (suc turns) e h t =
       let all : k ≡ 64 = omega arith in
@@ -200,11 +201,11 @@ command-length N k = go (hasEdge N k)
     go false = zero-le
 
 commands-length : (N : Network) (k n : ℕ) → length (rest N k n) ≤ 4 * n + 1
-unfolding rest flatMap rising
+unfolding rest flatMap range
 commands-length N k zero = le-refl 1
 commands-length N k (suc n) =
     let more : length (rest N k (suc n)) ≡ length (edgeCommand N k) + length (rest N (suc k) n) =
-    ap length (append-assoc (edgeCommand N k) (flatMap (edgeCommand N) (rising (suc k) n)) (0x45 ∷ []))
+    ap length (append-assoc (edgeCommand N k) (flatMap (edgeCommand N) (range (suc k) n)) (0x45 ∷ []))
     ∙ length-append (edgeCommand N k) (rest N (suc k) n) in
     omega (arith, command-length N k, commands-length N (suc k) n)
 
@@ -216,10 +217,10 @@ encode-length N = omega (arith, commands-length N 0 64)
 -- ---- the writer's steps
 
 -- One slot more stands at the end of a row.
-rising-snoc : (k n : ℕ) → rising k (suc n) ≡ rising k n ++ (k + n) ∷ []
-unfolding rising
-rising-snoc k zero = ap (λ x. x ∷ []) (sym (add-zero k))
-rising-snoc k (suc n) = let e : suc k + n ≡ k + suc n = omega arith in ap (λ l. k ∷ l) (rising-snoc (suc k) n ∙ ap (λ x. rising (suc k) n ++ x ∷ []) e)
+range-snoc : (k n : ℕ) → range k (suc n) ≡ range k n ++ (k + n) ∷ []
+unfolding range
+range-snoc k zero = ap (λ x. x ∷ []) (sym (add-zero k))
+range-snoc k (suc n) = let e : suc k + n ≡ k + suc n = omega arith in ap (λ l. k ∷ l) (range-snoc (suc k) n ∙ ap (λ x. range (suc k) n ++ x ∷ []) e)
 
 flatMap-append : (f : ℕ → List ℕ) (l m : List ℕ) → flatMap f (l ++ m) ≡ flatMap f l ++ flatMap f m
 unfolding flatMap
@@ -237,15 +238,15 @@ command-size N k = go (hasEdge N k)
     go true = omega arith
     go false = omega arith
 
-commands-size : (N : Network) (n : ℕ) → length (flatMap (edgeCommand N) (rising 0 n)) ≡ 4 * size n (present N)
-unfolding rising flatMap size
+commands-size : (N : Network) (n : ℕ) → length (flatMap (edgeCommand N) (range 0 n)) ≡ 4 * size n (present N)
+unfolding range flatMap size
 commands-size N zero = refl
 commands-size N (suc n) =
-    let last : flatMap (edgeCommand N) (rising 0 (suc n)) ≡ flatMap (edgeCommand N) (rising 0 n) ++ edgeCommand N n =
-    ap (flatMap (edgeCommand N)) (rising-snoc 0 n)
-    ∙ flatMap-append (edgeCommand N) (rising 0 n) ((0 + n) ∷ [])
-    ∙ ap (λ c. flatMap (edgeCommand N) (rising 0 n) ++ c) (append-nil (edgeCommand N (0 + n)) ∙ ap (edgeCommand N) (zero-add n)) in
-    ap length last ∙ length-append (flatMap (edgeCommand N) (rising 0 n)) (edgeCommand N n)
+    let last : flatMap (edgeCommand N) (range 0 (suc n)) ≡ flatMap (edgeCommand N) (range 0 n) ++ edgeCommand N n =
+    ap (flatMap (edgeCommand N)) (range-snoc 0 n)
+    ∙ flatMap-append (edgeCommand N) (range 0 n) ((0 + n) ∷ [])
+    ∙ ap (λ c. flatMap (edgeCommand N) (range 0 n) ++ c) (append-nil (edgeCommand N (0 + n)) ∙ ap (edgeCommand N) (zero-add n)) in
+    ap length last ∙ length-append (flatMap (edgeCommand N) (range 0 n)) (edgeCommand N n)
     ∙ omega (arith, commands-size N n, command-size N n)
 
 -- A plan has six bytes and four for each edge.
@@ -296,10 +297,10 @@ module _ (e l p : List ℕ) (at : ℕ) (vs later : List ℕ) (w : WrittenTo e l 
 
 -- A slot's command comes first of those from it on.
 pub rest-more : (N : Network) (k : ℕ) → k < 64 → rest N k (64 - k) ≡ edgeCommand N k ++ rest N (suc k) (64 - suc k)
-unfolding rest flatMap rising
+unfolding rest flatMap range
 rest-more N k l =
     let more : 64 - k ≡ suc (64 - suc k) = omega arith in
-    ap (rest N k) more ∙ append-assoc (edgeCommand N k) (flatMap (edgeCommand N) (rising (suc k) (64 - suc k))) (0x45 ∷ [])
+    ap (rest N k) more ∙ append-assoc (edgeCommand N k) (flatMap (edgeCommand N) (range (suc k) (64 - suc k))) (0x45 ∷ [])
 
 -- A slot's command, written where the commands from it on are left.
 module _ (N : Network) (l p : List ℕ) (at k : ℕ) (vs : List ℕ) (h : k < 64) (same : vs ≡ edgeCommand N k) (w : WrittenTo (encodeOf N) l at p)
@@ -322,5 +323,5 @@ unfolding encodeOf rest
 rest-all N = refl
 
 pub rest-none : (N : Network) → rest N 64 0 ≡ 0x45 ∷ []
-unfolding rest rising flatMap
+unfolding rest range flatMap
 rest-none N = refl

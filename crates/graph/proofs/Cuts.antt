@@ -6,9 +6,11 @@ use mathlib.Core.Logic.{_↔_, Dec·of-iff, Iff·symm, Iff·trans, Iff·and, Iff
 use Prim.Native.Nat.{ℕ, _^_}
 use lib.Bits.{bitAnd}
 use lib.Dec.{T, eqb}
+use Rattle.lists.specs.Words.{every}
+use Rattle.lists.proofs.Words.{T-every}
 use Rattle.bitset.specs.Members.{has, _⊆_, _∖_, members, _∈_}
 use Rattle.bitset.proofs.Subsets.{⊆-trans, subset-and}
-use Rattle.bitset.proofs.Tests.{T-not, T-then, T-eqb}
+use Rattle.lists.proofs.Tests.{T-not, T-then, T-eqb}
 use Rattle.bitset.proofs.Sets.{∈-dec, in-and, minus-⊆, member-lt}
 use Rattle.bitset.proofs.MemberList.{in-members}
 use Rattle.network.specs.Record.{present}
@@ -16,11 +18,11 @@ use Rattle.network.specs.declared.Network.{Network}
 use Rattle.graph.specs.Paths.{Minpath, Connected, SameMinpaths}
 use Rattle.graph.specs.Cuts.{only, without, Cut, Mincut}
 use Rattle.graph.specs.Reach.{reachOf, Bounded}
-use Rattle.graph.specs.CutTests.{severed, every, cutTest, allNeeded, mincutTest}
-use Rattle.graph.proofs.Tests.{T-every}
+use Rattle.graph.specs.CutTests.{severed, cutTest, allNeeded, mincutTest}
 use Rattle.graph.proofs.Minpaths.{minpath-present, walk-minpath, minpath-only, connected-minpath, minpath-least}
 use Rattle.graph.proofs.Reach.{bounded-only, in-reach-single}
-use Rattle.graph.proofs.Families.{Holds, Transversal, Blocker, Decided, least-drop, transversal-up, transversal-same, transversal-rest, blocker-same, holds-inside, blocker-inside, blocker-none, transversal-shrink, meets-blocker, blocker-private, blocker-blocker, same-blocker}
+use Rattle.bitset.specs.Families.{Holds, Transversal, Blocker}
+use Rattle.bitset.proofs.Families.{Decided, least-drop, transversal-up, transversal-same, transversal-rest, blocker-same, holds-inside, blocker-inside, blocker-none, transversal-shrink, meets-blocker, blocker-private, blocker-blocker, same-blocker}
 
 -- ---- cuts are transversals
 

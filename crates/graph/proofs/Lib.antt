@@ -1,10 +1,8 @@
 -- The theory of graphs, a notion to a file, in reading order.
-pub mod Tests
 pub mod Walks
 pub mod Nodes
 pub mod Minpaths
 pub mod Reach
-pub mod Families
 pub mod Cuts
 pub mod Sound
 pub mod EdgeSets

@@ -1,15 +1,14 @@
 -- Cuts, as they are computed: one reachable set for a cut, and one more for each member of a mincut.
 --
 --   severed N c          without the edges of c the source does not reach the sink
---   every f l            the test f holds of every member of l
 --   cutTest N c          whether c is a cut
 --   allNeeded N c        no member of c can be dropped: without the others alone the source reaches the sink
 --   mincutTest N c       whether c is a mincut
 use mathlib.Core.Bool.{Bool, true, false, not}
-use mathlib.Core.List.{List, [], _∷_}
 use Prim.Native.Nat.{ℕ, _^_}
 use lib.Bits.{bitAnd}
 use lib.Dec.{eqb}
+use Rattle.lists.specs.Words.{every}
 use Rattle.bitset.specs.Members.{has, _∖_, members}
 use Rattle.network.specs.Record.{present}
 use Rattle.network.specs.declared.Network.{Network}
@@ -18,10 +17,6 @@ use Rattle.graph.specs.Reach.{reachOf}
 
 unfoldable pub severed : Network → ℕ → Bool
 severed N c = not (has (reachOf (without N c) (2 ^ N .source)) (N .sink))
-
-unfoldable pub every : {A : Type 0} → (A → Bool) → List A → Bool
-every f [] = true
-every f (k ∷ l) = elim (f k) [ true ↦ every f l | false ↦ false ]
 
 unfoldable pub cutTest : Network → ℕ → Bool
 cutTest N c = elim (eqb (bitAnd c (present N)) c) [ true ↦ severed N c | false ↦ false ]

@@ -7,6 +7,7 @@ use native.Mathlib.Omega.{arith}
 use borrow.Rule.Slice.PartMut.{putMid}
 use lib.ListN.{length, take, length-map}
 use lib.Seq.{sets}
+use Rattle.lists.specs.Words.{onto}
 use Rattle.network.specs.declared.Network.{Network}
 use Rattle.network.specs.Record.{faultOf, Stored}
 use Rattle.network.proofs.Refusals.{refused-some}
@@ -14,7 +15,7 @@ use Rattle.listing.specs.Sorted.{Sorted}
 use Rattle.graph.proofs.Sound.{Sound, accepted-sound}
 use Rattle.cuts.specs.Enumeration.{Row, cutsOf, sidesOf, rows}
 use Rattle.listing.specs.declared.Listed.{Listed}
-use Rattle.listing.specs.List.{mincuts, sourceSides, onto, listRefusal, listedBy, cutRowsAfter, sideRowsAfter}
+use Rattle.listing.specs.List.{mincuts, sourceSides, listRefusal, listedBy, cutRowsAfter, sideRowsAfter}
 use Rattle.listing.proofs.Rows.{rows-paired, mincuts-count, sorted-mincuts, sorted-sides}
 use Rattle.listing.proofs.Onto.{onto-first, onto-back}
 use Rattle.listing.proofs.Refusals.{refusal-faulty, refusal-unpaired, refusal-outnumbered, refusal-none}

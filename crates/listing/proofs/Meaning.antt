@@ -6,6 +6,8 @@ use mathlib.Core.Logic.{_↔_, Iff·trans, Iff·symm}
 use Prim.Native.Nat.{ℕ, _≤_, _<_}
 use native.Mathlib.Nat.{lt-trans, lt-of-lt-of-le}
 use lib.ListN.{length, getD, drop, length-map, List·getD-append}
+use Rattle.lists.proofs.Words.{getD-onto}
+use Rattle.lists.specs.Words.{onto}
 use Rattle.lists.proofs.Places.{mem-place, getD-map}
 use Rattle.lists.proofs.Rising.{rising-places}
 use Rattle.lists.proofs.Distinct.{rising-distinct, distinct-at-most}
@@ -17,7 +19,7 @@ use Rattle.graph.specs.Relevant.{sourceSideOf}
 use Rattle.graph.proofs.Sound.{Sound, accepted-sound}
 use Rattle.graph.proofs.Correspondence.{in-sourceSideOf}
 use Rattle.listing.specs.declared.Listed.{Listed}
-use Rattle.listing.specs.List.{mincuts, sourceSides, onto, listRefusal, listedBy, ListMeans}
+use Rattle.listing.specs.List.{mincuts, sourceSides, listRefusal, listedBy, ListMeans}
 use Rattle.listing.proofs.Mincuts.{mincuts-lists}
 use Rattle.listing.proofs.Refusals.{refusal-outnumbered}
 use Rattle.listing.proofs.Call.{Answered, answer-refusal, complete-call}
@@ -33,10 +35,6 @@ mincuts-complete N S =
       members = λ c. Iff·trans (Iff·symm (mem-place l c)) (lists .members c);
       beside = λ i v h. rw (getD-map (sourceSideOf N) l i h) (in-sourceSideOf N S (getD l i 0) v);
     }
-
--- Below the length of a list that was written onto lent rows stands what stands in the list.
-pub getD-onto : (l lent : List ℕ) (i : ℕ) → i < length l → getD (onto l lent) i 0 ≡ getD l i 0
-getD-onto l lent i h = List·getD-append l (drop (length l) lent) 0 i h
 
 -- Written onto any rows, a complete list stays one.
 complete-onto : (N : Network) (l k cuts sides : List ℕ) → length k ≡ length l → CompleteList N (length l) l k

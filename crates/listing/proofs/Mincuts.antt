@@ -9,6 +9,8 @@ use native.Mathlib.Bridge.{le-prop}
 use native.Mathlib.Nat.{lt-of-le-of-lt}
 use denote.Floats.{passes}
 use lib.Dec.{T}
+use Rattle.lists.proofs.Words.{mem-passing, passing-rising}
+use Rattle.lists.specs.Words.{passing}
 use Rattle.lists.specs.Rising.{Rising}
 use Rattle.bitset.specs.Members.{subsets}
 use Rattle.bitset.proofs.Subsets.{subset-le, mem-subsets, subsets-rising}
@@ -24,43 +26,7 @@ use Rattle.graph.proofs.Sound.{Sound}
 use Rattle.graph.proofs.Correspondence.{side-of-mincut, side-none}
 use Rattle.cuts.specs.Lists.{Lists}
 use Rattle.cuts.proofs.Lists.{lists-unique}
-use Rattle.listing.specs.List.{passing, mincuts, sourceSides}
-
--- ---- the numbers that pass a test
-
-module _ (f : ℕ → Bool) where
-  -- A number is among those that pass exactly if it is in the list and passes.
-  mem-passing : (l : List ℕ) (c : ℕ) → List·Memᴰ c (passing f l) ↔ (List·Memᴰ c l × T (f c))
-  unfolding passing
-  mem-passing [] c = (λ m. absurd (List·Memᴰ·not-nil m), λ p. absurd (List·Memᴰ·not-nil (p .0)))
-  mem-passing (x ∷ l) c = go (f x) refl (mem-passing l c)
-    where
-      go : (b : Bool) → f x ≡ b → List·Memᴰ c (passing f l) ↔ (List·Memᴰ c l × T (f c))
-          → List·Memᴰ c (elim b [ true ↦ x ∷ passing f l | false ↦ passing f l ]) ↔ (List·Memᴰ c (x ∷ l) × T (f c))
-      go true e rest = (
-        λ m. elim (List·Memᴰ·cases-cons m) [
-          | inl q ↦ (List·Memᴰ·head q, rw q (passes (f x) e))
-          | inr n ↦ let p = rest .0 n in (List·Memᴰ·tail (p .0), p .1)
-        ],
-        λ p. elim (List·Memᴰ·cases-cons (p .0)) [ inl q ↦ List·Memᴰ·head q | inr n ↦ List·Memᴰ·tail (rest .1 (n, p .1)) ],
-      )
-      go false e rest = (
-        λ m. let p = rest .0 m in (List·Memᴰ·tail (p .0), p .1),
-        λ p. elim (List·Memᴰ·cases-cons (p .0)) [ inl q ↦ absurd (rw (q, e) at (p .1)) | inr n ↦ rest .1 (n, p .1) ],
-      )
-
-  -- Of a rising list, the numbers that pass rise.
-  passing-rising : (l : List ℕ) → Rising l → Rising (passing f l)
-  unfolding passing
-  passing-rising [] r = Pairwise·nil
-  passing-rising (x ∷ l) r = go (f x) (passing-rising l (pairwise-cons .0 r .1))
-    where
-      above : (y : ℕ) → List·Mem y (passing f l) → x < y
-      above y m = ∥∥₁-elim m le-prop (λ n. pairwise-cons .0 r .0 y ∣ mem-passing l y .0 n .0 ∣₁)
-
-      go : (b : Bool) → Rising (passing f l) → Rising (elim b [ true ↦ x ∷ passing f l | false ↦ passing f l ])
-      go true rest = Pairwise·cons above rest
-      go false rest = rest
+use Rattle.listing.specs.List.{mincuts, sourceSides}
 
 -- ---- the complete list
 

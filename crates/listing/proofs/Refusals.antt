@@ -10,8 +10,9 @@ use native.Mathlib.Omega.{arith}
 use borrow.Author.Tests.{eq-eqb, ne-eqb, lt-ltb, le-ltb}
 use lib.Dec.{leb, ltb, eqb}
 use lib.ListN.{length}
+use Rattle.lists.specs.Words.{range}
 use Rattle.network.specs.declared.Network.{Network}
-use Rattle.network.specs.Record.{_when_, _then_, sizeFault, pairFault, absentFault, rising, hasEdge, firstEnd, secondEnd, slotFault, slotsFault, faultOf}
+use Rattle.network.specs.Record.{_when_, _then_, sizeFault, pairFault, absentFault, hasEdge, firstEnd, secondEnd, slotFault, slotsFault, faultOf}
 use Rattle.network.proofs.Refusals.{some-then}
 use Rattle.listing.specs.List.{mincuts, listRefusal}
 
@@ -50,9 +51,9 @@ slot-record N k = go (hasEdge N k)
 
 -- So is the first fault of some slots.
 slots-record : (N : Network) (n k : ℕ) → RecordFault (slotsFault N k n)
-unfolding slotsFault rising
+unfolding slotsFault range
 slots-record N zero k = inl (omega arith)
-slots-record N (suc n) k = then-record (slotFault N k) (foldr _then_ 0 (map (slotFault N) (rising (suc k) n))) (slot-record N k) (slots-record N n (suc k))
+slots-record N (suc n) k = then-record (slotFault N k) (foldr _then_ 0 (map (slotFault N) (range (suc k) n))) (slot-record N k) (slots-record N n (suc k))
 
 -- So is the fault of a record.
 fault-record : (N : Network) → RecordFault (faultOf N)

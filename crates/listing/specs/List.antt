@@ -1,20 +1,19 @@
 -- The complete list of the mincuts of a network, and what the list call answers and leaves in the lent rows.
 --
---   passing f l              the numbers of l that pass the test f, in their order
 --   mincuts N                the mincuts of N, rising: the complete list
 --   sourceSides N            their source sides, each at the place of its mincut
---   onto l lent              lent rows after l was written onto the first of them
 --   listRefusal N cuts sides     the call's refusal for a network and lent rows, 0 if there is none
 --   listedBy N cuts sides        its answer
 --   cutRowsAfter N cuts sides, sideRowsAfter N cuts sides     the lent rows afterwards
 --   ListMeans N cuts sides r n cuts′ sides′     what it means that the call, lent `cuts` and `sides`, gave the refusal r and the count n and left cuts′ and sides′
-use mathlib.Core.Bool.{Bool, true, false, not}
-use mathlib.Core.List.{List, [], _∷_, _++_, map}
+use mathlib.Core.Bool.{not}
+use mathlib.Core.List.{List, map}
 use mathlib.Core.Logic.{_↔_}
 use mathlib.Core.Path.{_≡_}
 use Prim.Native.Nat.{ℕ}
 use lib.Dec.{ltb, eqb}
-use lib.ListN.{length, drop}
+use lib.ListN.{length}
+use Rattle.lists.specs.Words.{passing, onto}
 use Rattle.bitset.specs.Members.{subsets}
 use Rattle.network.specs.declared.Network.{Network}
 use Rattle.network.specs.Record.{_when_, _then_, unlessRefused, faultOf, Stored, present}
@@ -25,10 +24,6 @@ use Rattle.listing.specs.declared.Listed.{Listed}
 
 -- ---- the complete list
 
-unfoldable pub passing : (ℕ → Bool) → List ℕ → List ℕ
-passing f [] = []
-passing f (x ∷ l) = elim (f x) [ true ↦ x ∷ passing f l | false ↦ passing f l ]
-
 unfoldable pub mincuts : Network → List ℕ
 mincuts N = passing (mincutTest N) (subsets 64 (present N))
 
@@ -36,9 +31,6 @@ abbrev pub sourceSides : Network → List ℕ
 sourceSides N = map (sourceSideOf N) (mincuts N)
 
 -- ---- the call
-
-abbrev pub onto : List ℕ → List ℕ → List ℕ
-onto l lent = l ++ drop (length l) lent
 
 -- The record's first fault, then 11: cut rows and side rows differ in number; 12: more minimal cuts than rows lent
 unfoldable pub listRefusal : Network → List ℕ → List ℕ → ℕ

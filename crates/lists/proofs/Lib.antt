@@ -1,6 +1,8 @@
 -- The laws of lists that the kit does not have.
+pub mod Tests
 pub mod Places
 pub mod Distinct
 pub mod Counts
+pub mod Words
 pub mod Rising
 pub mod Stores

@@ -2,3 +2,4 @@
 pub mod Rising
 pub mod Distinct
 pub mod Counts
+pub mod Words

@@ -9,9 +9,10 @@ use native.Mathlib.Omega.{arith}
 use lib.ListN.{length-set}
 use lib.Seq.{getD-set-same, getD-set-other}
 use borrow.Author.Tests.{eq-eqb, ne-eqb}
+use Rattle.lists.specs.Words.{range}
 use Rattle.bitset.proofs.Members.{has-insert, insert-lt}
 use Rattle.network.specs.declared.Network.{Network}
-use Rattle.network.specs.Record.{_then_, Stored, rising, Slot, slot, slotFaultOf, slotFault, slotsFault, sizeFault, terminalFault, faultOf, hasEdge, firstEnd, secondEnd, withEdge, present}
+use Rattle.network.specs.Record.{_then_, Stored, Slot, slot, slotFaultOf, slotFault, slotsFault, sizeFault, terminalFault, faultOf, hasEdge, firstEnd, secondEnd, withEdge, present}
 use Rattle.network.proofs.Refusals.{then-none, none-then}
 
 abbrev pub empty : Slot
@@ -52,19 +53,19 @@ module _ (N : Network) (stored : Stored N) (k a b : ℕ) (l : k < 64) where
 -- ---- all slots
 
 -- The first fault of a row of slots is none exactly if each has none.
-pub row-none : (f : ℕ → ℕ) (k n : ℕ) → foldr _then_ 0 (map f (rising k n)) ≡ 0 → (j : ℕ) → k ≤ j → j < k + n → f j ≡ 0
-unfolding rising
+pub row-none : (f : ℕ → ℕ) (k n : ℕ) → foldr _then_ 0 (map f (range k n)) ≡ 0 → (j : ℕ) → k ≤ j → j < k + n → f j ≡ 0
+unfolding range
 row-none f k zero e j h l = absurd (omega arith)
 row-none f k (suc n) e j h l =
-    let parts = then-none (f k) (foldr _then_ 0 (map f (rising (suc k) n))) e in
+    let parts = then-none (f k) (foldr _then_ 0 (map f (range (suc k) n))) e in
     at-or-past (parts .0) (λ (p : suc k ≤ j). row-none f (suc k) n (parts .1) j p (omega arith)) (ℕ-discrete j k)
   where
     at-or-past : f k ≡ 0 → (suc k ≤ j → f j ≡ 0) → Dec (j ≡ k) → f j ≡ 0
     at-or-past z later (yes p) = ap f p ∙ z
     at-or-past z later (no d) = later (omega arith)
 
-pub none-row : (f : ℕ → ℕ) (k n : ℕ) → ((j : ℕ) → k ≤ j → j < k + n → f j ≡ 0) → foldr _then_ 0 (map f (rising k n)) ≡ 0
-unfolding rising
+pub none-row : (f : ℕ → ℕ) (k n : ℕ) → ((j : ℕ) → k ≤ j → j < k + n → f j ≡ 0) → foldr _then_ 0 (map f (range k n)) ≡ 0
+unfolding range
 none-row f k zero z = refl
 none-row f k (suc n) z = none-then _ (z k (omega arith) (omega arith)) ∙ none-row f (suc k) n (λ j h l. z j (omega arith) (omega arith))
 
@@ -88,5 +89,5 @@ accepted-none N a =
 
 -- The first fault of the slots from k on is that of slot k, or else that of the later ones.
 pub slots-step : (N : Network) (k : ℕ) → k < 64 → slotsFault N k (64 - k) ≡ (slotFault N k then slotsFault N (suc k) (64 - suc k))
-unfolding slotsFault rising
-slots-step N k l = let more : 64 - k ≡ suc (64 - suc k) = omega arith in ap (λ n. foldr _then_ 0 (map (slotFault N) (rising k n))) more
+unfolding slotsFault range
+slots-step N k l = let more : 64 - k ≡ suc (64 - suc k) = omega arith in ap (λ n. foldr _then_ 0 (map (slotFault N) (range k n))) more

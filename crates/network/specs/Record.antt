@@ -4,7 +4,7 @@
 --   r then s         r unless it is 0, else s: the first fault decides
 --   unlessRefused r a b      a, or b where r is a refusal: what a call gives, and what lent memory holds after it
 --   sizeFault, pairFault, terminalFault, endFault, absentFault      the rules of the paper's table "Who causes a refusal"
---   rising k n       the n numbers from k on, and slots those of the 64 edge slots
+--   slots            the numbers of the 64 edge slots, rising
 --   present N        the set of the edges present
 --   hasEdge N k, firstEnd N k, secondEnd N k     whether edge k is present, and its two ends
 --   Slot, slot N k   what slot k holds
@@ -21,6 +21,7 @@ use mathlib.Core.Path.{_≡_}
 use Prim.Native.Nat.{ℕ, zero, suc, _<_, _^_}
 use lib.Dec.{leb, ltb, eqb}
 use lib.ListN.{length, getD, set, replicate}
+use Rattle.lists.specs.Words.{range}
 use Rattle.bitset.specs.Members.{has, insert}
 use Rattle.network.specs.declared.Network.{Network}
 
@@ -62,13 +63,9 @@ absentFault a b = 13 when (ltb 0 a || ltb 0 b)
 
 -- ---- the record test
 
--- The n numbers from k on.
-unfoldable pub rising : ℕ → ℕ → List ℕ
-rising k zero = []
-rising k (suc n) = k ∷ rising (suc k) n
-
+-- The numbers of the 64 slots.
 abbrev pub slots : List ℕ
-slots = rising 0 64
+slots = range 0 64
 
 -- The set of the edges present.
 abbrev pub present : Network → ℕ
@@ -100,7 +97,7 @@ slotFault N k = slotFaultOf (N .nodes) (slot N k)
 
 -- The first fault of the n slots from k on.
 unfoldable pub slotsFault : Network → ℕ → ℕ → ℕ
-slotsFault N k n = foldr _then_ 0 (map (slotFault N) (rising k n))
+slotsFault N k n = foldr _then_ 0 (map (slotFault N) (range k n))
 
 -- The record test: 4, 5, 6, then slot by slot.
 unfoldable pub faultOf : Network → ℕ

@@ -10,9 +10,10 @@ use borrow.Author.Tests.{eq-eqb, ne-eqb, eqb-true, not-false}
 use denote.Floats.{is-true, passes}
 use lib.Bits.{bitAnd}
 use lib.Dec.{T, eqb}
+use Rattle.lists.proofs.Words.{T-every}
 use Rattle.bitset.specs.Members.{_⊆_, _∖_, members, _∈_}
 use Rattle.bitset.proofs.Subsets.{same-test, subset-and}
-use Rattle.bitset.proofs.Tests.{T-not, T-then}
+use Rattle.lists.proofs.Tests.{T-not, T-then}
 use Rattle.bitset.proofs.Sets.{member-lt}
 use Rattle.bitset.proofs.MemberList.{in-members}
 use Rattle.network.specs.declared.Network.{Network}
@@ -22,7 +23,6 @@ use Rattle.graph.specs.Reach.{Bounded}
 use Rattle.graph.specs.Cuts.{Cut, Mincut}
 use Rattle.graph.specs.CutTests.{severed, cutTest, allNeeded, mincutTest}
 use Rattle.graph.specs.Relevant.{relevantNodes, relevantEdges}
-use Rattle.graph.proofs.Tests.{T-every}
 use Rattle.graph.proofs.Cuts.{severed-iff, cutTest-iff, mincutTest-iff}
 use Rattle.graph.proofs.Sound.{Sound, accepted-sound}
 use Rattle.graph.proofs.Relevant.{in-relevantNodes, in-relevantEdges}

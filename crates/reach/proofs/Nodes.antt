@@ -9,7 +9,7 @@ use lib.Dec.{T, eqb, ltb, lt→ltb}
 use Rattle.bitset.specs.Members.{has, _⊆_, insert, _∖_, _∈_}
 use Rattle.bitset.proofs.Members.{has-ones}
 use Rattle.bitset.proofs.Subsets.{⊆-antisym}
-use Rattle.bitset.proofs.Tests.{T-and}
+use Rattle.lists.proofs.Tests.{T-and}
 use Rattle.bitset.proofs.Sets.{in-minus, in-drop, minus-⊆, member-lt, in-mod}
 use Rattle.bitset.proofs.Results.{single-power, below-ones, with-member, without-minus}
 use Rattle.network.specs.declared.Network.{Network}

@@ -8,6 +8,7 @@ use native.Mathlib.Omega.{arith}
 use borrow.Author.Tests.{lt-ltb, le-ltb}
 use lib.ListN.{length, take, replicate, length-map, length-replicate, length-take}
 use lib.Seq.{take-at, take-all}
+use Rattle.lists.specs.Words.{onto}
 use Rattle.network.specs.declared.Network.{Network}
 use Rattle.network.specs.Record.{unlessRefused, faultOf}
 use Rattle.network.proofs.Refusals.{refused-none, refused-some}
@@ -19,7 +20,7 @@ use Rattle.text.specs.Text.{refusalLine, listText, maxRows}
 use Rattle.text.specs.Written.{Printed}
 use Rattle.graph.specs.Relevant.{sourceSideOf}
 use Rattle.listing.specs.declared.Listed.{Listed}
-use Rattle.listing.specs.List.{mincuts, sourceSides, onto, listRefusal, listedBy, cutRowsAfter, sideRowsAfter}
+use Rattle.listing.specs.List.{mincuts, sourceSides, listRefusal, listedBy, cutRowsAfter, sideRowsAfter}
 use Rattle.listing.proofs.Refusals.{refusal-outnumbered, refusal-none}
 use Rattle.report.specs.Report.{listReport, reportOf, Reported}
 

@@ -5,7 +5,8 @@ use Prim.Native.Nat.{_-_, _≤_}
 use native.Mathlib.Omega.{arith}
 use borrow.Author.Needs.{needs}
 use native.Mathlib.Numerals.{add-one}
-use Rattle.network.specs.Record.{slotFaultOf, slotFault, slotsFault, rising, firstEnd, secondEnd}
+use Rattle.lists.specs.Words.{range}
+use Rattle.network.specs.Record.{slotFaultOf, slotFault, slotsFault, firstEnd, secondEnd}
 use Rattle.network.proofs.Slots.{slots-step}
 use Rattle.network.proofs.Refusals.{none-then, some-then}
 use Rattle.network.proofs.faults.slots_fault.Statement.{statement}
@@ -66,7 +67,7 @@ loop-again c =
     )
 
 returns-2 : tie.Need-returns-2 Inv-loop μ-loop
-unfolding slotsFault rising
+unfolding slotsFault range
 returns-2 c =
     let l = c .before .loop in
     let all : l .k ≡ 64 = omega arith in

@@ -1,41 +1,16 @@
 -- Families of sets and their blockers: shrinking to a least set, and that the blocker of a clutter's blocker is the clutter.
 -- Assumes nothing.
---
---   Meets s t            the sets s and t have a common member
---   Holds F h            some set of the family F lies inside h
---   Least P t            t has P, and no proper subset of it has
---   Transversal F t      t meets every set of F
---   Blocker F            the family of the least transversals of F
---   Clutter F            no set of F holds another
 use mathlib.Core.Path.{_≡_, refl, sym}
 use mathlib.Core.Logic.{inl, inr, _↔_, Dec·not-not, Dec·not, Dec·of-iff, Iff·symm, Iff·trans}
 use Prim.Native.Nat.{ℕ, zero, suc, _^_, _<_}
 use native.Mathlib.Nat.{not-suc-le-zero, le-of-suc-le-suc, eq-or-lt-of-le}
 use native.Mathlib.Decide.{ℕ-discrete}
 use lib.Bits.{bitAnd}
+use Rattle.bitset.specs.Families.{Meets, Holds, Least, Transversal, Blocker, Clutter}
 use Rattle.bitset.specs.Members.{_⊆_, _∖_, _∈_}
 use Rattle.bitset.proofs.Members.{lt-pow, has-zero}
 use Rattle.bitset.proofs.Subsets.{⊆-refl, ⊆-trans, ⊆-antisym, zero-⊆}
 use Rattle.bitset.proofs.Sets.{∈-dec, in-and, in-minus, minus-⊆, minus-mono, minus-minus, in-drop, member-lt, empty-or-member}
-
-abbrev pub Meets : ℕ → ℕ → Type 0
-Meets s t = (k : ℕ) × ((k ∈ s) × (k ∈ t))
-
-abbrev pub Holds : (ℕ → Type 0) → ℕ → Type 0
-Holds F h = (r : ℕ) × (F r × (r ⊆ h))
-
-pub record Least (P : ℕ → Type 0) (t : ℕ) : Type 0 where
-  pub has : P t
-  pub least : (d : ℕ) → d ⊆ t → P d → d ≡ t
-
-abbrev pub Transversal : (ℕ → Type 0) → ℕ → Type 0
-Transversal F t = (r : ℕ) → F r → Meets r t
-
-abbrev pub Blocker : (ℕ → Type 0) → ℕ → Type 0
-Blocker F = Least (Transversal F)
-
-abbrev pub Clutter : (ℕ → Type 0) → Type 0
-Clutter F = (r r′ : ℕ) → F r → F r′ → r ⊆ r′ → r ≡ r′
 
 -- ---- least sets
 

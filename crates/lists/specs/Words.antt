@@ -1,0 +1,25 @@
+-- Lists made from lists, and a test of all members.
+--
+--   range k n        the n numbers from k on
+--   every f l        the test f holds of every member of l
+--   passing f l      the numbers of l that pass the test f, in their order
+--   onto l lent      lent rows or bytes after l was written onto the first of them
+use mathlib.Core.Bool.{Bool, true, false}
+use mathlib.Core.List.{List, [], _∷_, _++_}
+use Prim.Native.Nat.{ℕ, zero, suc}
+use lib.ListN.{length, drop}
+
+unfoldable pub range : ℕ → ℕ → List ℕ
+range k zero = []
+range k (suc n) = k ∷ range (suc k) n
+
+unfoldable pub every : {A : Type 0} → (A → Bool) → List A → Bool
+every f [] = true
+every f (k ∷ l) = elim (f k) [ true ↦ every f l | false ↦ false ]
+
+unfoldable pub passing : (ℕ → Bool) → List ℕ → List ℕ
+passing f [] = []
+passing f (x ∷ l) = elim (f x) [ true ↦ x ∷ passing f l | false ↦ passing f l ]
+
+abbrev pub onto : List ℕ → List ℕ → List ℕ
+onto l lent = l ++ drop (length l) lent
