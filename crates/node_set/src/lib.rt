@@ -3,8 +3,7 @@ ghost use mathlib.Core.Path.{_≡_};
 ghost use mathlib.Core.Bool.{false, not, _&&_, _||_};
 ghost use Prim.Native.Nat.{ℕ};
 ghost use lib.Dec.{eqb, ltb};
-ghost use Rattle.bitset.specs.Decides.{Decides};
-ghost use Rattle.bitset.specs.Members.{has, _⊆_, size, Lowest};
+ghost use Rattle.bitset.specs.Members.{has, size, Lowest};
 
 pub struct NodeSet(pub u32);
 
@@ -86,20 +85,6 @@ impl NodeSet {
         ensures { λ r. ⌜ ((k : ℕ) → has (r .0) k ≡ has (self .0) k && not (has (other .0) k)) ⌝ }
     {
         NodeSet(self.0 & !other.0)
-    }
-
-    // Whether there is no member.
-    pub fn is_empty(self) -> bool
-        ensures { λ r. ⌜ r ≡ eqb (self .0) 0 ⌝ }
-    {
-        self.0 == 0
-    }
-
-    // Whether every member is a member of the other.
-    pub fn is_subset(self, other: NodeSet) -> bool
-        ensures { λ r. ⌜ Decides r (self .0 ⊆ other .0) ⌝ }
-    {
-        self.0 & other.0 == self.0
     }
 
     // Whether the two sets are the same.
