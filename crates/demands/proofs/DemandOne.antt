@@ -66,7 +66,7 @@ reader s = go (ℕ-discrete (decodeOf s .refusal) 0)
         let answer = decode-answer s in
         let outside : (N : Network) → Stored N → Rules N → encodeOf N ≡ s → ⊥ = λ N stored r e. f (ap (λ d. d .refusal) (rw e at (read N stored r))) in
         let zeroed : decodeOf s ≡ refuse (decodeOf s .refusal) = λ i. record { refusal = decodeOf s .refusal; network = answer .zeroed f i } in
-        subst (ReaderEnds s) (sym zeroed) (ReaderEnds.refused (decodeOf s .refusal) (some f) (answer .bounded) outside)
+        subst (ReaderEnds s) (sym zeroed) (ReaderEnds.refused (decodeOf s .refusal) (some f) (answer .number) outside)
 
 -- ---- the relevant part
 

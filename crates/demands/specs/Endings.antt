@@ -12,14 +12,15 @@ use mathlib.Core.List.{List, _++_}
 use mathlib.Core.Logic.{_↔_}
 use mathlib.Core.Path.{_≡_}
 use Prim.Native.Nat.{ℕ, _≤_, _<_}
+use lib.Dec.{T}
 use lib.ListN.{length, drop}
 use Rattle.bitset.specs.Members.{_∈_, _⊆_}
 use Rattle.network.specs.declared.Network.{Network}
-use Rattle.network.specs.Record.{Stored, faultOf, present}
+use Rattle.network.specs.Record.{among, Stored, faultOf, present}
 use Rattle.network.specs.Rules.{Rules}
 use Rattle.format.specs.declared.Decoded.{Decoded}
 use Rattle.format.specs.declared.Encoded.{Encoded}
-use Rattle.format.specs.Format.{accept, refuse, encodeOf}
+use Rattle.format.specs.Format.{readerRefusals, accept, refuse, encodeOf}
 use Rattle.graph.specs.Cuts.{RelevantEdge, RelevantNode}
 use Rattle.graph.specs.Lists.{CompleteList, Outnumber}
 use Rattle.reach.specs.declared.RelevantPart.{RelevantPart}
@@ -27,10 +28,10 @@ use Rattle.reach.specs.declared.Verdict.{Verdict}
 use Rattle.reach.specs.Answers.{partFrom, Says, told}
 use Rattle.listing.specs.declared.Listed.{Listed}
 
--- A plan within the rules is read; any other bytes are refused with a number from 1 to 10, beside the all-zero record.
+-- A plan within the rules is read; any other bytes are refused with one of the reader's numbers, beside the all-zero record.
 pub data ReaderEnds (s : List ℕ) : Decoded → Type 0 where
   read : (N : Network) → Stored N → Rules N → encodeOf N ≡ s → ReaderEnds s (accept N)
-  refused : (r : ℕ) → 0 < r → r ≤ 10 → ((N : Network) → Stored N → Rules N → encodeOf N ≡ s → ⊥) → ReaderEnds s (refuse r)
+  refused : (r : ℕ) → 0 < r → T (among readerRefusals r) → ((N : Network) → Stored N → Rules N → encodeOf N ≡ s → ⊥) → ReaderEnds s (refuse r)
 
 -- Two sets that hold exactly the relevant nodes and edges; on refusal both empty.
 pub data PartEnds (N : Network) : RelevantPart → Type 0 where

@@ -3,19 +3,20 @@
 use mathlib.Core.Bool.{true, false}
 use mathlib.Core.List.{List, [], _∷_, _++_, flatMap}
 use mathlib.Core.Path.{_≡_, refl, ap, ap₂, sym, subst, _∙_}
-use Prim.Native.Nat.{ℕ, zero, suc, _+_, _-_, _≤_, _<_, zero-le}
+use Prim.Native.Nat.{ℕ, zero, suc, _+_, _-_, _≤_, _<_}
 use native.Mathlib.Nat.{le-refl}
 use native.Mathlib.Decide.{ℕ-discrete}
 use native.Mathlib.Omega.{arith}
+use lib.Dec.{T}
 use lib.ListN.{length, drop, getD-replicate}
 use Rattle.lists.specs.Words.{range}
 use Rattle.bitset.proofs.Members.{has-zero}
 use Rattle.network.specs.declared.Network.{Network}
-use Rattle.network.specs.Record.{Stored, Slot, slot, slotFault, endFault, absentFault, faultOf, bare, withEdge, hasEdge, firstEnd, secondEnd, noNetwork}
+use Rattle.network.specs.Record.{among, Stored, Slot, slot, slotFault, endFault, absentFault, faultOf, bare, withEdge, hasEdge, firstEnd, secondEnd, noNetwork}
 use Rattle.network.proofs.Rules.{fault-rules}
 use Rattle.network.proofs.Slots.{empty, slotFault-of, withEdge-same, withEdge-other, withEdge-stored, accepted-none}
 use Rattle.format.specs.declared.Decoded.{Decoded}
-use Rattle.format.specs.Format.{accept, refuse, edges, decodeOf, edgeCommand, encodeOf}
+use Rattle.format.specs.Format.{readerRefusals, accept, refuse, edges, decodeOf, edgeCommand, encodeOf}
 use Rattle.format.specs.Meaning.{ReadMeans}
 use Rattle.format.proofs.Steps.{EdgeView, edge, end, edge-view}
 use Rattle.format.proofs.Walk.{HeaderView, header, header-view, edges-edge, edges-end, edges-refused}
@@ -168,20 +169,21 @@ accepts s e = λ i. record { refusal = e i; network = decodeOf s .network }
 
 -- ---- refusals
 
--- A refusal is at most 10, and beside it stands the all-zero record.
+-- A refusal is one of the reader's, and beside it stands the all-zero record.
 pub record Answer (d : Decoded) : Type 0 where
-  pub bounded : d .refusal ≤ 10
+  pub number : T (among readerRefusals (d .refusal))
   pub zeroed : (d .refusal ≡ 0 → ⊥) → d .network ≡ noNetwork
 
 accept-answer : (N : Network) → Answer (accept N)
-accept-answer N = record { bounded = zero-le; zeroed = λ h. absurd (h refl) }
+unfolding among
+accept-answer N = record { number = tt; zeroed = λ h. absurd (h refl) }
 
-refuse-answer : (r : ℕ) → r ≤ 10 → Answer (refuse r)
-refuse-answer r b = record { bounded = b; zeroed = λ h. refl }
+refuse-answer : (r : ℕ) → T (among readerRefusals r) → Answer (refuse r)
+refuse-answer r b = record { number = b; zeroed = λ h. refl }
 
 edges-answer : (turns : ℕ) (N : Network) (next : ℕ) (s : List ℕ) → Answer (edges turns N next s)
-unfolding edges
-edges-answer zero N next s = refuse-answer 1 (omega arith)
+unfolding among edges
+edges-answer zero N next s = refuse-answer 1 tt
 edges-answer (suc turns) N next s =
     go (λ k a b. edges-answer turns (withEdge N k a b) (suc k) (drop 4 s)) (edge-view (N .nodes) next s)
   where

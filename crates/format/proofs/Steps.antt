@@ -5,13 +5,13 @@ use mathlib.Core.List.{List, [], _∷_}
 use mathlib.Core.Path.{_≡_, refl, ap, _∙_}
 use Prim.Native.Nat.{ℕ, zero, suc, _≤_, _<_}
 use native.Mathlib.Omega.{arith}
-use lib.Dec.{ltb, eqb}
+use lib.Dec.{T, ltb, eqb}
 use lib.ListN.{length, drop}
 use borrow.Author.Tests.{le-ltb, eq-eqb, ltb-false, eqb-true, not-false}
-use Rattle.network.specs.Record.{_when_, _then_, sizeFault, pairFault, terminalFault, endFault}
-use Rattle.network.proofs.Refusals.{then-none, none-then, when-none, none-when, then-bounded, when-bounded}
+use Rattle.network.specs.Record.{among, _when_, _then_, sizeFault, pairFault, terminalFault, endFault}
+use Rattle.network.proofs.Refusals.{then-none, none-then, when-none, none-when, then-among, when-among}
 use Rattle.format.specs.declared.Step.{Step}
-use Rattle.format.specs.Format.{at, missing, unfit, numberFault, sizeRefusal, terminalsRefusal, edgeRefusal, endRefusal, sizeStep, terminalsStep, edgeStep}
+use Rattle.format.specs.Format.{readerRefusals, at, missing, unfit, numberFault, sizeRefusal, terminalsRefusal, edgeRefusal, endRefusal, sizeStep, terminalsStep, edgeStep}
 
 -- ---- the rules that every command shares
 
@@ -33,11 +33,12 @@ none-unfit c s e = none-when 2 (ap not (eq-eqb (at s 0) c e))
 abbrev pub command : ℕ → ℕ → List ℕ → ℕ → ℕ
 command c k s values = missing 1 s then unfit c s then missing k s then values
 
--- A refusal of the first rules is at most 2, so any bound on the values' rules above that holds for the command.
-command-bounded : (m c k : ℕ) (s : List ℕ) (values : ℕ) → 2 ≤ m → values ≤ m → command c k s values ≤ m
-command-bounded m c k s values h v =
-    then-bounded m _ _ (when-bounded m 1 _ (omega arith))
-    (then-bounded m _ _ (when-bounded m 2 _ h) (then-bounded m _ _ (when-bounded m 1 _ (omega arith)) v))
+-- A command's refusal is among the reader's if that of its values is.
+command-among : (c k : ℕ) (s : List ℕ) (values : ℕ) → T (among readerRefusals values) → T (among readerRefusals (command c k s values))
+unfolding among
+command-among c k s values v =
+    then-among readerRefusals _ _ (when-among readerRefusals 1 _ tt)
+    (then-among readerRefusals _ _ (when-among readerRefusals 2 _ tt) (then-among readerRefusals _ _ (when-among readerRefusals 1 _ tt) v))
 
 -- A command finds no fault exactly if it fits, its operands are there and its values have none.
 command-none : (c k : ℕ) (s : List ℕ) (values : ℕ) → command c k s values ≡ 0
@@ -62,10 +63,10 @@ two (c ∷ n ∷ s) h = refl
 
 pub data SizeView (s : List ℕ) : Type 0 where
   size : (n : ℕ) (rest : List ℕ) → sizeStep s ≡ Step.Size n → s ≡ 0x50 ∷ n ∷ rest → sizeFault n ≡ 0 → SizeView s
-  refused : (r : ℕ) → sizeStep s ≡ Step.Refused r → 0 < r → r ≤ 10 → SizeView s
+  refused : (r : ℕ) → sizeStep s ≡ Step.Refused r → 0 < r → T (among readerRefusals r) → SizeView s
 
 pub size-view : (s : List ℕ) → SizeView s
-unfolding sizeStep sizeRefusal sizeFault
+unfolding among sizeStep sizeRefusal sizeFault
 size-view s = go (sizeRefusal s) refl
   where
     go : (r : ℕ) → sizeRefusal s ≡ r → SizeView s
@@ -74,7 +75,7 @@ size-view s = go (sizeRefusal s) refl
         size (at s 1) (drop 2 s) (rw e) (two s (f .1 .0) ∙ ap (λ c. c ∷ at s 1 ∷ drop 2 s) (f .0)) (f .1 .1)
     go (suc r) e =
         refused (suc r) (rw e) (omega arith)
-        (rw e at (command-bounded 10 0x50 2 s (sizeFault (at s 1)) (omega arith) (when-bounded 10 4 _ (omega arith))))
+        (rw e at (command-among 0x50 2 s (sizeFault (at s 1)) (when-among readerRefusals 4 _ tt)))
 
 pub size-taken : (n : ℕ) (s : List ℕ) → sizeFault n ≡ 0 → sizeStep (0x50 ∷ n ∷ s) ≡ Step.Size n
 unfolding sizeStep sizeRefusal
@@ -91,10 +92,10 @@ three (c ∷ a ∷ b ∷ s) h = refl
 pub data TerminalsView (n : ℕ) (s : List ℕ) : Type 0 where
   terminals : (a b : ℕ) (rest : List ℕ) → terminalsStep n s ≡ Step.Terminals a b → s ≡ 0x53 ∷ a ∷ b ∷ rest
       → terminalFault n a b ≡ 0 → TerminalsView n s
-  refused : (r : ℕ) → terminalsStep n s ≡ Step.Refused r → 0 < r → r ≤ 10 → TerminalsView n s
+  refused : (r : ℕ) → terminalsStep n s ≡ Step.Refused r → 0 < r → T (among readerRefusals r) → TerminalsView n s
 
 pub terminals-view : (n : ℕ) (s : List ℕ) → TerminalsView n s
-unfolding terminalsStep terminalsRefusal pairFault
+unfolding among terminalsStep terminalsRefusal pairFault
 terminals-view n s = go (terminalsRefusal n s) refl
   where
     go : (r : ℕ) → terminalsRefusal n s ≡ r → TerminalsView n s
@@ -104,8 +105,8 @@ terminals-view n s = go (terminalsRefusal n s) refl
         (three s (f .1 .0) ∙ ap (λ c. c ∷ at s 1 ∷ at s 2 ∷ drop 3 s) (f .0)) (f .1 .1)
     go (suc r) e =
         TerminalsView.refused (suc r) (rw e) (omega arith)
-        (rw e at (command-bounded 10 0x53 3 s (terminalFault n (at s 1) (at s 2)) (omega arith)
-        (then-bounded 10 _ _ (when-bounded 10 5 _ (omega arith)) (when-bounded 10 6 _ (omega arith)))))
+        (rw e at (command-among 0x53 3 s (terminalFault n (at s 1) (at s 2))
+        (then-among readerRefusals _ _ (when-among readerRefusals 5 _ tt) (when-among readerRefusals 6 _ tt))))
 
 pub terminals-taken : (n a b : ℕ) (s : List ℕ) → terminalFault n a b ≡ 0
     → terminalsStep n (0x53 ∷ a ∷ b ∷ s) ≡ Step.Terminals a b
@@ -126,7 +127,7 @@ pub data EdgeView (n next : ℕ) (s : List ℕ) : Type 0 where
   edge : (k a b : ℕ) (rest : List ℕ) → edgeStep n next s ≡ Step.Edge k a b → s ≡ 0x43 ∷ k ∷ a ∷ b ∷ rest
       → next ≤ k → k < 64 → endFault n a b ≡ 0 → EdgeView n next s
   end : edgeStep n next s ≡ Step.End → s ≡ 0x45 ∷ [] → EdgeView n next s
-  refused : (r : ℕ) → edgeStep n next s ≡ Step.Refused r → 0 < r → r ≤ 10 → EdgeView n next s
+  refused : (r : ℕ) → edgeStep n next s ≡ Step.Refused r → 0 < r → T (among readerRefusals r) → EdgeView n next s
 
 -- A number is free of faults exactly if it is not below the next one and below 64.
 number-none : (next k : ℕ) → numberFault next k ≡ 0 → (next ≤ k) × (k < 64)
@@ -149,12 +150,12 @@ end-none (x ∷ y ∷ s) c e =
     absurd (let short = ltb-false 1 (length (x ∷ y ∷ s)) (when-none 3 (ltb 1 (length (x ∷ y ∷ s))) (omega arith) e) in omega arith)
 
 pub edge-view : (n next : ℕ) (s : List ℕ) → EdgeView n next s
-unfolding edgeStep edgeRefusal endRefusal numberFault pairFault
+unfolding among edgeStep edgeRefusal endRefusal numberFault pairFault
 edge-view n next s = go (eqb (at s 0) 0x45) refl
   where
     at-end : eqb (at s 0) 0x45 ≡ true → (r : ℕ) → endRefusal s ≡ r → EdgeView n next s
     at-end c zero e = end (rw (c, e)) (end-none s (eqb-true (at s 0) 0x45 c) e)
-    at-end c (suc r) e = EdgeView.refused (suc r) (rw (c, e)) (omega arith) (rw e at (when-bounded 10 3 (ltb 1 (length s)) (omega arith)))
+    at-end c (suc r) e = EdgeView.refused (suc r) (rw (c, e)) (omega arith) (rw e at (when-among readerRefusals 3 (ltb 1 (length s)) tt))
 
     at-edge : eqb (at s 0) 0x45 ≡ false → (r : ℕ) → edgeRefusal n next s ≡ r → EdgeView n next s
     at-edge c zero e =
@@ -165,9 +166,9 @@ edge-view n next s = go (eqb (at s 0) 0x45) refl
         (four s (f .1 .0) ∙ ap (λ c. c ∷ at s 1 ∷ at s 2 ∷ at s 3 ∷ drop 4 s) (f .0)) (h .0) (h .1) (g .1)
     at-edge c (suc r) e =
         EdgeView.refused (suc r) (rw (c, e)) (omega arith)
-        (rw e at (command-bounded 10 0x43 4 s (numberFault next (at s 1) then endFault n (at s 2) (at s 3)) (omega arith)
-        (then-bounded 10 _ _ (then-bounded 10 _ _ (when-bounded 10 7 _ (omega arith)) (when-bounded 10 8 _ (omega arith)))
-        (then-bounded 10 _ _ (when-bounded 10 9 _ (omega arith)) (when-bounded 10 10 _ (omega arith))))))
+        (rw e at (command-among 0x43 4 s (numberFault next (at s 1) then endFault n (at s 2) (at s 3))
+        (then-among readerRefusals _ _ (then-among readerRefusals _ _ (when-among readerRefusals 7 _ tt) (when-among readerRefusals 8 _ tt))
+        (then-among readerRefusals _ _ (when-among readerRefusals 9 _ tt) (when-among readerRefusals 10 _ tt)))))
 
     go : (b : Bool) → eqb (at s 0) 0x45 ≡ b → EdgeView n next s
     go true c = at-end c (endRefusal s) refl

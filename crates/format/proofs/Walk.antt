@@ -6,17 +6,17 @@ use mathlib.Core.Path.{_≡_, refl, ap, sym, subst, _∙_}
 use Prim.Native.Nat.{ℕ, zero, suc, _≤_, _<_}
 use native.Mathlib.Nat.{le-refl}
 use native.Mathlib.Omega.{arith}
-use lib.Dec.{T}
+use lib.Dec.{T, T}
 use lib.ListN.{length, drop, length-drop}
 use mir.Val.{hasKey}
 use types.Run.{OneOf, miss}
 use denote.Enum.Declared.{tagOf}
 use Rattle.network.specs.declared.Network.{Network}
-use Rattle.network.specs.Record.{_when_, _then_, sizeFault, terminalFault, bare, withEdge}
+use Rattle.network.specs.Record.{among, _when_, _then_, sizeFault, terminalFault, bare, withEdge}
 use Rattle.network.proofs.Refusals.{refused-some}
 use Rattle.format.specs.declared.Decoded.{Decoded}
 use Rattle.format.specs.declared.Step.{Step}
-use Rattle.format.specs.Format.{at, sizeStep, terminalsStep, edgeStep, edgeRefusal, told, accept, refuse, ifTaken, edges, walk, decodeOf}
+use Rattle.format.specs.Format.{readerRefusals, at, sizeStep, terminalsStep, edgeStep, edgeRefusal, told, accept, refuse, ifTaken, edges, walk, decodeOf}
 use Rattle.format.proofs.Step as step-type
 use Rattle.format.proofs.Steps.{SizeView, size, size-view, TerminalsView, terminals, terminals-view, EdgeView, edge, end, edge-view}
 
@@ -67,7 +67,7 @@ module _ (s : List ℕ) {t : Step} (e : t ≡ sizeStep s) where
 pub data HeaderView (s : List ℕ) : Type 0 where
   header : (n a b : ℕ) (rest : List ℕ) → decodeOf s ≡ walk (bare n a b) 0 rest → s ≡ 0x50 ∷ n ∷ 0x53 ∷ a ∷ b ∷ rest
       → sizeFault n ≡ 0 → terminalFault n a b ≡ 0 → HeaderView s
-  refused : (r : ℕ) → decodeOf s ≡ refuse r → 0 < r → r ≤ 10 → HeaderView s
+  refused : (r : ℕ) → decodeOf s ≡ refuse r → 0 < r → T (among readerRefusals r) → HeaderView s
 
 pub header-view : (s : List ℕ) → HeaderView s
 unfolding decodeOf

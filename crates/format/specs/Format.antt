@@ -8,6 +8,7 @@
 --   sizeStep s, terminalsStep n s, edgeStep n next s     a command's answer: its values, the end, or its refusal
 --   stepOf w s                the answer where w is awaited
 --   Told, told t              what the answer t says by the paper: its number, and the command's values
+--   readerRefusals            the numbers that the reader can give
 --   accept N, refuse r        the reader's two answers
 --   ifTaken t goOn            refused by the number of the answer t, or on with its values
 --   edges turns N next s, walk N next s     the edge commands and the end, read into N
@@ -102,6 +103,10 @@ told Step.End = record { number = 0; values = [] }
 told (Step.Refused r) = record { number = r; values = [] }
 
 -- ---- reading
+
+-- The numbers that the reader can give.
+abbrev pub readerRefusals : List ℕ
+readerRefusals = 1 ∷ 2 ∷ 3 ∷ 4 ∷ 5 ∷ 6 ∷ 7 ∷ 8 ∷ 9 ∷ 10 ∷ []
 
 abbrev pub accept : Network → Decoded
 accept N = record { refusal = 0; network = N }

@@ -2,3 +2,4 @@
 pub mod Refusals
 pub mod Slots
 pub mod Rules
+pub mod Numbers

@@ -2,11 +2,14 @@
 -- Assumes nothing.
 use mathlib.Core.Bool.{Bool, true, false, _||_, true≢false}
 use mathlib.Core.Path.{_≡_, refl, ap}
-use Prim.Native.Nat.{ℕ, zero, suc, _≤_, _<_, zero-le}
+use mathlib.Core.List.{List, [], _∷_}
+use mathlib.Core.Logic.{inr}
+use Prim.Native.Nat.{ℕ, zero, suc, _≤_, _<_}
 use native.Mathlib.Omega.{arith}
 use borrow.Author.Tests.{ltb-false, leb-false, eqb-false}
-use lib.Dec.{leb, ltb, eqb}
-use Rattle.network.specs.Record.{_when_, _then_, unlessRefused, sizeFault, pairFault}
+use lib.Dec.{T, leb, ltb, eqb}
+use Rattle.lists.proofs.Tests.{T-or}
+use Rattle.network.specs.Record.{_when_, _then_, among, unlessRefused, sizeFault, pairFault}
 
 -- Two rules in a row find no fault exactly if neither does.
 pub then-none : (r s : ℕ) → (r then s) ≡ 0 → (r ≡ 0) × (s ≡ 0)
@@ -51,16 +54,31 @@ pub or-none : (a b : Bool) → (a || b) ≡ false → (a ≡ false) × (b ≡ fa
 or-none true b e = absurd (true≢false e)
 or-none false b e = (refl, e)
 
--- A bound on each of two rules bounds them in a row.
-pub then-bounded : (m r s : ℕ) → r ≤ m → s ≤ m → (r then s) ≤ m
-unfolding _then_
-then-bounded m zero s p q = q
-then-bounded m (suc r) s p q = p
+-- ---- which numbers are given
 
-pub when-bounded : (m r : ℕ) (b : Bool) → r ≤ m → (r when b) ≤ m
+-- No refusal is among all numbers.
+among-none : (l : List ℕ) → T (among l 0)
+unfolding among
+among-none [] = tt
+among-none (k ∷ l) = T-or (eqb 0 k) (among l 0) .1 (inr (among-none l))
+
+-- The first of two faults is among the numbers if both are.
+pub then-among : (l : List ℕ) (r s : ℕ) → T (among l r) → T (among l s) → T (among l (r then s))
+unfolding _then_
+then-among l zero s p q = q
+then-among l (suc r) s p q = p
+
+-- A rule's fault is among them if its number is.
+pub when-among : (l : List ℕ) (r : ℕ) (b : Bool) → T (among l r) → T (among l (r when b))
 unfolding _when_
-when-bounded m r true p = p
-when-bounded m r false p = zero-le
+when-among l r true p = p
+when-among l r false p = among-none l
+
+-- So is that of a rule for two nodes.
+pub pair-among : (l : List ℕ) (x y n a b : ℕ) → T (among l x) → T (among l y) → T (among l (pairFault x y n a b))
+unfolding pairFault
+pair-among l x y n a b p q =
+    then-among l (x when (leb n a || leb n b)) (y when eqb a b) (when-among l x (leb n a || leb n b) p) (when-among l y (eqb a b) q)
 
 -- ---- what the rules say of the values that keep them
 

@@ -2,6 +2,7 @@
 --
 --   r when b         the refusal r where b holds, else 0
 --   r then s         r unless it is 0, else s: the first fault decides
+--   among l r        whether r is 0 or one of the numbers of l
 --   unlessRefused r a b      a, or b where r is a refusal: what a call gives, and what lent memory holds after it
 --   sizeFault, pairFault, terminalFault, endFault, absentFault      the rules of the paper's table "Who causes a refusal"
 --   slots            the numbers of the 64 edge slots, rising
@@ -9,6 +10,7 @@
 --   hasEdge N k, firstEnd N k, secondEnd N k     whether edge k is present, and its two ends
 --   Slot, slot N k   what slot k holds
 --   slotFaultOf n s, slotFault N k, slotsFault N k n     the fault of a slot, and the first of the n slots from k on
+--   recordRefusals   the numbers that the record test can give
 --   faultOf N        the record's first fault, 0 if it has none; a record is accepted if it is 0
 --   assembled ..     a network from its fields
 --   rewired N ..     N with other edges
@@ -33,6 +35,11 @@ r when b = cond b r 0
 unfoldable pub _then_ : ℕ → ℕ → ℕ
 zero then s = s
 suc r then s = suc r
+
+-- Whether r is 0 or one of the numbers of l: the rules that a call keeps are a list, and the numbers may have gaps.
+unfoldable pub among : List ℕ → ℕ → Bool
+among [] r = eqb r 0
+among (k ∷ l) r = eqb r k || among l r
 
 -- What a call gives, a, or b where it is refused by r; and what lent rows or bytes hold after it, b being what they held before.
 abbrev pub unlessRefused : {A : Type 0} → ℕ → A → A → A
@@ -98,6 +105,10 @@ slotFault N k = slotFaultOf (N .nodes) (slot N k)
 -- The first fault of the n slots from k on.
 unfoldable pub slotsFault : Network → ℕ → ℕ → ℕ
 slotsFault N k n = foldr _then_ 0 (map (slotFault N) (range k n))
+
+-- The numbers that the record test can give.
+abbrev pub recordRefusals : List ℕ
+recordRefusals = 4 ∷ 5 ∷ 6 ∷ 9 ∷ 10 ∷ 13 ∷ []
 
 -- The record test: 4, 5, 6, then slot by slot.
 unfoldable pub faultOf : Network → ℕ
