@@ -6,36 +6,36 @@ use native.Mathlib.Omega.{arith}
 use Rattle.network.specs.declared.Network.{Network}
 use Rattle.reach.specs.declared.Verdict.{Verdict}
 use Rattle.reach.specs.declared.Verdict.the-variants.{NotCut, NotMinimal, Minimal, Refused}
-use Rattle.reach.specs.Answers.{VerdictMeans, told}
+use Rattle.reach.specs.Answers.{VerdictMeans, numbersOf}
 use Rattle.capi.specs.Fields.{JudgedMeans}
 
 -- The numbers of a verdict mean what the verdict says.
-told-means : (N : Network) (c : ℕ) (w : Verdict) → VerdictMeans N c w → JudgedMeans N c (told w .refusal) (told w .verdict)
-told-means N c NotCut m = record {
+numbers-mean : (N : Network) (c : ℕ) (w : Verdict) → VerdictMeans N c w → JudgedMeans N c (numbersOf w .refusal) (numbersOf w .verdict)
+numbers-mean N c NotCut m = record {
   stored = m .stored;
   not-cut = (λ e. (refl, m .says), λ p. refl);
   not-minimal = (λ e. absurd (omega arith), λ p. absurd (m .says (p .1)));
   minimal = (λ e. absurd (omega arith), λ p. absurd (m .says (p .1 .cut)));
 }
-told-means N c NotMinimal m = record {
+numbers-mean N c NotMinimal m = record {
   stored = m .stored;
   not-cut = (λ e. absurd (omega arith), λ p. absurd (p .1 (m .says .0)));
   not-minimal = (λ e. (refl, m .says .0, m .says .1), λ p. refl);
   minimal = (λ e. absurd (omega arith), λ p. absurd (m .says .1 (p .1)));
 }
-told-means N c Minimal m = record {
+numbers-mean N c Minimal m = record {
   stored = m .stored;
   not-cut = (λ e. absurd (omega arith), λ p. absurd (p .1 (m .says .cut)));
   not-minimal = (λ e. absurd (omega arith), λ p. absurd (p .2 (m .says)));
   minimal = (λ e. (refl, m .says), λ p. refl);
 }
-told-means N c (Refused k) m = record {
+numbers-mean N c (Refused k) m = record {
   stored = m .stored;
   not-cut = (λ e. absurd (omega arith), λ p. absurd (omega (arith, p .0, m .says .1)));
   not-minimal = (λ e. absurd (omega arith), λ p. absurd (omega (arith, p .0, m .says .1)));
   minimal = (λ e. absurd (omega arith), λ p. absurd (omega (arith, p .0, m .says .1)));
 }
 
--- So do numbers that are told of a verdict on a network that is given field by field.
-pub judged-means : {N M : Network} {c r v : ℕ} {w : Verdict} → VerdictMeans M c w → M ≡ N → r ≡ told w .refusal → v ≡ told w .verdict → JudgedMeans N c r v
-judged-means {N} {M} {c} {r} {v} {w} m e p q = rw (← e, p, q) (told-means M c w m)
+-- So do the numbers of a verdict on a network that is given field by field.
+pub judged-means : {N M : Network} {c r v : ℕ} {w : Verdict} → VerdictMeans M c w → M ≡ N → r ≡ numbersOf w .refusal → v ≡ numbersOf w .verdict → JudgedMeans N c r v
+judged-means {N} {M} {c} {r} {v} {w} m e p q = rw (← e, p, q) (numbers-mean M c w m)

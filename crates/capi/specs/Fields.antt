@@ -14,7 +14,7 @@ use Rattle.network.specs.declared.Network.{Network}
 use Rattle.network.specs.Record.{Stored}
 use Rattle.format.specs.Format.{decodeOf, encodedBy, bytesAfter}
 use Rattle.graph.specs.Cuts.{Cut, Mincut}
-use Rattle.reach.specs.Answers.{relevantOf, verdictOf, told}
+use Rattle.reach.specs.Answers.{relevantOf, verdictOf, numbersOf}
 use Rattle.listing.specs.List.{listedBy, cutRowsAfter, sideRowsAfter}
 
 pub record Read (s : List ℕ) (r : ℕ) (N : Network) : Type 0 where
@@ -32,8 +32,8 @@ pub record Found (N : Network) (r n e : ℕ) : Type 0 where
   pub edges : e ≡ relevantOf N .edges .0
 
 pub record Judged (N : Network) (c r v : ℕ) : Type 0 where
-  pub refusal : r ≡ told (verdictOf N c) .refusal
-  pub verdict : v ≡ told (verdictOf N c) .verdict
+  pub refusal : r ≡ numbersOf (verdictOf N c) .refusal
+  pub verdict : v ≡ numbersOf (verdictOf N c) .verdict
 
 -- By the definitions of graph theory: each verdict is given exactly if nothing is refused and the set is what it says.
 pub record JudgedMeans (N : Network) (c r v : ℕ) : Type 0 where

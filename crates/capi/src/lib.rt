@@ -6,6 +6,7 @@ use edge_set::EdgeSet;
 use network::Network;
 ghost use mathlib.Core.Path.{_≡_};
 ghost use Rattle.network.specs.Record.{assembled, faultOf};
+ghost use Rattle.network.specs.Rules.{FaultMeans};
 ghost use Rattle.widths.specs.Widths.{widthsOf};
 ghost use Rattle.format.specs.Meaning.{ReadMeans, WrittenMeans};
 ghost use Rattle.reach.specs.Answers.{PartMeans};
@@ -76,6 +77,7 @@ pub extern "C" fn cutlist_fault(
     second: &[u8; 64],
 ) -> u8
     ensures { λ r. ⌜ r ≡ faultOf (assembled nodes source sink present (now (first .entry)) (now (second .entry))) ⌝ }
+    ensures means { λ r. ⌜ FaultMeans (assembled nodes source sink present (now (first .entry)) (now (second .entry))) r ⌝ }
 {
     network::fault(assemble(nodes, source, sink, present, first, second))
 }

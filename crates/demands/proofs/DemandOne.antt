@@ -16,7 +16,7 @@ use Rattle.bitset.proofs.Subsets.{subset-and}
 use Rattle.network.specs.declared.Network.{Network}
 use Rattle.network.specs.Record.{Stored, faultOf, present}
 use Rattle.network.specs.Rules.{Rules}
-use Rattle.network.proofs.Refusals.{none-then, some-then, some-when, none-when}
+use Rattle.network.proofs.Refusals.{none-then, some-then, some-when, none-when, refused-none, refused-some}
 use Rattle.network.proofs.Rules.{fault-rules}
 use Rattle.format.specs.declared.Encoded.{Encoded}
 use Rattle.format.specs.Format.{accept, refuse, decodeOf, encodeOf, encodeRefusal, encodedBy, bytesAfter}
@@ -25,19 +25,22 @@ use Rattle.format.proofs.Writing.{encode-decode}
 use Rattle.writer.proofs.Encoding.{Answered as Written, encode-refused, encode-written}
 use Rattle.graph.specs.Lists.{Outnumber}
 use Rattle.graph.specs.Relevant.{relevantNodes, relevantEdges, sourceSideOf}
-use Rattle.graph.proofs.Sound.{accepted-sound}
+use Rattle.graph.proofs.Sound.{Sound, accepted-sound}
 use Rattle.graph.proofs.Relevant.{in-relevantNodes, in-relevantEdges}
 use Rattle.reach.specs.declared.Verdict.{Verdict}
 use Rattle.reach.specs.declared.Verdict.the-variants.{NotCut, NotMinimal, Minimal, Refused}
-use Rattle.reach.specs.Answers.{relevantOf, judgeFault, verdictOf, Says, told}
+use Rattle.reach.specs.Answers.{relevantOf, judgeFault, verdictOf, Says, numbersOf}
 use Rattle.reach.proofs.Answers.{part-refused, part-accepted, judge-record, judge-absent, judge-none, verdict-refused, verdict-right}
 use Rattle.listing.specs.declared.Listed.{Listed}
 use Rattle.listing.specs.List.{mincuts, sourceSides, listRefusal, listedBy, cutRowsAfter, sideRowsAfter}
 use Rattle.listing.proofs.Refusals.{Case, faulty, unpaired, outnumbered, complete, call-case, refusal-none}
 use Rattle.listing.proofs.Call.{Answered, answered-faulty, answered-unpaired, answered-outnumbered, answer-refusal, complete-call}
-use Rattle.listing.proofs.Meaning.{outnumber-iff, call-complete, call-outnumbered}
+use Rattle.listing.proofs.Meaning.{mincuts-complete, outnumber-iff, call-complete, call-outnumbered}
 use Rattle.listing.proofs.Rows.{mincuts-count}
-use Rattle.demands.specs.Endings.{ReaderEnds, PartEnds, JudgingEnds, Kept, ListEnds, WriterEnds}
+use Rattle.text.specs.Text.{refusalLine, maxRows}
+use Rattle.report.specs.Report.{listReport, reportOf}
+use Rattle.report.proofs.Reports.{report-outnumbered, report-complete}
+use Rattle.demands.specs.Endings.{ReaderEnds, PartEnds, JudgingEnds, Kept, ListEnds, WriterEnds, ReportEnds}
 use Rattle.demands.specs.Demands.{DemandOne}
 
 -- A record without a fault keeps the rules.
@@ -86,7 +89,7 @@ judging : (N : Network) → Stored N → (c : ℕ) → JudgingEnds N c (verdictO
 judging N stored c = go (ℕ-discrete (faultOf N) 0) (ℕ-discrete (bitAnd c (present N)) c)
   where
     -- A verdict that says something true of a set that is not refused is none of the refusals.
-    unrefused : faultOf N ≡ 0 → c ⊆ present N → (v : Verdict) → Says N c v → told v .refusal ≡ 0
+    unrefused : faultOf N ≡ 0 → c ⊆ present N → (v : Verdict) → Says N c v → numbersOf v .refusal ≡ 0
     unrefused ok within NotCut s = refl
     unrefused ok within NotMinimal s = refl
     unrefused ok within Minimal s = refl
@@ -153,6 +156,31 @@ writer N lent = go (ℕ-discrete (faultOf N) 0) (decLt (length lent) (length (en
         let room : length (encodeOf N) ≤ length lent = omega arith in
         ended (encode-written N lent _ _ (none-then _ ok ∙ none-when 15 (le-ltb _ _ room)) refl refl) (WriterEnds.written (rules N ok) room)
 
+-- ---- the list program
+
+program : (s : List ℕ) → ReportEnds s (reportOf s)
+unfolding reportOf
+program s = go (ℕ-discrete (decodeOf s .refusal) 0)
+  where
+    N : Network
+    N = decodeOf s .network
+
+    line : List ℕ
+    line = refusalLine (decodeOf s .refusal)
+
+    go : Dec (decodeOf s .refusal ≡ 0) → ReportEnds s (reportOf s)
+    go (no f) = subst (ReportEnds s) (sym (refused-some (decodeOf s .refusal) (listReport N) line f)) (ReportEnds.unread (some f))
+    go (yes e) =
+        let plan = decode-plan s N (accepts s e) in
+        let S = accepted-sound N (plan .stored) (plan .accepted) in
+        subst (ReportEnds s) (sym (refused-none (listReport N) line e)) (rows S (decLt maxRows (length (mincuts N))))
+      where
+        rows : Sound N → Dec (maxRows < length (mincuts N)) → ReportEnds s (listReport N)
+        rows S (yes h) = subst (ReportEnds s) (sym (report-outnumbered N h)) (ReportEnds.outnumbered e (outnumber-iff N (S .bounded) maxRows .0 h))
+        rows S (no h) =
+            subst (ReportEnds s) (sym (report-complete N (omega arith)))
+            (ReportEnds.listed (mincuts N) (sourceSides N) e (length-map (mincuts N) (sourceSideOf N)) (mincuts-complete N S))
+
 -- ---- the demand
 
 pub demand-one : DemandOne
@@ -165,4 +193,5 @@ demand-one = record {
   list = list;
   too-many = λ N stored cuts sides. call-outnumbered N stored cuts sides refl;
   writer = λ N stored. writer N;
+  program = program;
 }

@@ -1,6 +1,6 @@
 -- The customer's three demands, as statements about the calls. What a call answers and leaves is what its contract says: `decodeOf`,
--- `faultOf`, `relevantOf`, `verdictOf`, `listedBy` with the rows afterwards, `encodedBy` with the bytes afterwards. `Stored N`, what the types of the
--- code say of any record, is in the contract of every call that takes one.
+-- `faultOf`, `relevantOf`, `verdictOf`, `listedBy` with the rows afterwards, `encodedBy` with the bytes afterwards, and
+-- `reportOf` of the program. `Stored N`, what the types of the code say of any record, is in the contract of every call that takes one.
 --
 --   DemandOne        every call ends with the complete result or with the refusal that its own condition calls for
 --   DemandTwo        the list holds exactly the minimal cuts, each beside its near side; writing and reading give back what they were given
@@ -18,7 +18,8 @@ use Rattle.graph.specs.Paths.{SameMinpaths}
 use Rattle.graph.specs.Lists.{CompleteList, SameList, Outnumber}
 use Rattle.reach.specs.Answers.{relevantOf, verdictOf}
 use Rattle.listing.specs.List.{listedBy, cutRowsAfter, sideRowsAfter}
-use Rattle.demands.specs.Endings.{ReaderEnds, PartEnds, JudgingEnds, ListEnds, WriterEnds}
+use Rattle.report.specs.Report.{reportOf}
+use Rattle.demands.specs.Endings.{ReaderEnds, PartEnds, JudgingEnds, ListEnds, WriterEnds, ReportEnds}
 
 pub record DemandOne : Type 0 where
   -- The record test finds no fault exactly if the record keeps the rules.
@@ -34,6 +35,7 @@ pub record DemandOne : Type 0 where
   pub too-many : (N : Network) → Stored N → (cuts sides : List ℕ)
       → (listedBy N cuts sides .refusal ≡ 12) ↔ ((faultOf N ≡ 0) × (length cuts ≡ length sides) × Outnumber N (length cuts))
   pub writer : (N : Network) → Stored N → (lent : List ℕ) → WriterEnds N lent (encodedBy N lent) (bytesAfter N lent)
+  pub program : (s : List ℕ) → ReportEnds s (reportOf s)
 
 pub record DemandTwo : Type 0 where
   pub list : (N : Network) → Stored N → (cuts sides : List ℕ) → listedBy N cuts sides .refusal ≡ 0

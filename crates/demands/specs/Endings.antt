@@ -1,6 +1,7 @@
 -- How each open call ends (demand 1): with its complete result beside the refusal 0, or with the number of the first fault in the paper's
--- order, its empty result, and lent memory as it was. The cases of a call exclude each other, so each refusal is given exactly if its own
--- condition holds and no earlier fault stands.
+-- order, its empty result, and lent memory as it was. The cases of a call exclude each other, so each refusal of its own is given exactly if
+-- its condition holds and no earlier fault stands. Of plan faults the order is that of their definitions: of a record's `faultOf`, rule after
+-- rule, and of a plan's in bytes `decodeOf`, command after command; what is said here of bytes is that these alone are read which keep the rules.
 --
 --   ReaderEnds s d                   reading the bytes s gives d
 --   PartEnds N p                     finding the relevant part of N gives p
@@ -8,6 +9,7 @@
 --   Kept n before after              lent rows or bytes: as many as before, and past the first n what they held
 --   ListEnds N cuts sides l cuts′ sides′     listing N into rows that held `cuts` and `sides` gives l and leaves cuts′ and sides′
 --   WriterEnds N lent e after        writing N into a buffer that held `lent` gives e and leaves `after`
+--   ReportEnds s t                   for the input s the list program prints t
 use mathlib.Core.List.{List, _++_}
 use mathlib.Core.Logic.{_↔_}
 use mathlib.Core.Path.{_≡_}
@@ -20,13 +22,14 @@ use Rattle.network.specs.Record.{among, Stored, faultOf, present}
 use Rattle.network.specs.Rules.{Rules}
 use Rattle.format.specs.declared.Decoded.{Decoded}
 use Rattle.format.specs.declared.Encoded.{Encoded}
-use Rattle.format.specs.Format.{readerRefusals, accept, refuse, encodeOf}
+use Rattle.format.specs.Format.{readerRefusals, accept, refuse, decodeOf, encodeOf}
 use Rattle.graph.specs.Cuts.{RelevantEdge, RelevantNode}
 use Rattle.graph.specs.Lists.{CompleteList, Outnumber}
 use Rattle.reach.specs.declared.RelevantPart.{RelevantPart}
 use Rattle.reach.specs.declared.Verdict.{Verdict}
-use Rattle.reach.specs.Answers.{partFrom, Says, told}
+use Rattle.reach.specs.Answers.{partFrom, Says, numbersOf}
 use Rattle.listing.specs.declared.Listed.{Listed}
+use Rattle.text.specs.Text.{refusalLine, listText, maxRows}
 
 -- A plan within the rules is read; any other bytes are refused with one of the reader's numbers, beside the all-zero record.
 pub data ReaderEnds (s : List ℕ) : Decoded → Type 0 where
@@ -40,7 +43,7 @@ pub data PartEnds (N : Network) : RelevantPart → Type 0 where
 
 -- A verdict that is true; 14 for an edge that is not present.
 pub data JudgingEnds (N : Network) (c : ℕ) : Verdict → Type 0 where
-  judged : (v : Verdict) → Rules N → c ⊆ present N → told v .refusal ≡ 0 → Says N c v → JudgingEnds N c v
+  judged : (v : Verdict) → Rules N → c ⊆ present N → numbersOf v .refusal ≡ 0 → Says N c v → JudgingEnds N c v
   faulty : 0 < faultOf N → JudgingEnds N c (Verdict.Refused (faultOf N))
   absent : Rules N → (c ⊆ present N → ⊥) → JudgingEnds N c (Verdict.Refused 14)
 
@@ -64,3 +67,10 @@ pub data WriterEnds (N : Network) (lent : List ℕ) : Encoded → List ℕ → T
       → WriterEnds N lent (record { refusal = 0; count = length (encodeOf N) }) (encodeOf N ++ drop (length (encodeOf N)) lent)
   faulty : 0 < faultOf N → WriterEnds N lent (record { refusal = faultOf N; count = 0 }) lent
   short : Rules N → length lent < length (encodeOf N) → WriterEnds N lent (record { refusal = 15; count = 0 }) lent
+
+-- The list of the record read, or the line of the refusal: the reader's, or 12 for more minimal cuts than the program lends rows.
+pub data ReportEnds (s : List ℕ) : List ℕ → Type 0 where
+  listed : (cuts sides : List ℕ) → decodeOf s .refusal ≡ 0 → length sides ≡ length cuts → CompleteList (decodeOf s .network) (length cuts) cuts sides
+      → ReportEnds s (listText cuts sides)
+  unread : 0 < decodeOf s .refusal → ReportEnds s (refusalLine (decodeOf s .refusal))
+  outnumbered : decodeOf s .refusal ≡ 0 → Outnumber (decodeOf s .network) maxRows → ReportEnds s (refusalLine 12)

@@ -36,13 +36,13 @@ fn read_once(room: &mut [u8]) -> Input
     input_of(got, room)
 }
 
-// Reads standard input into the plan, until it is full or the input ends.
-fn read_plan(plan: &mut [u8]) -> Input
-    ensures { λ r. ⌜ Within (length (now (plan .exit))) r ⌝ }
+// Reads standard input into the lent bytes, until they are full or the input ends.
+fn fill(room: &mut [u8]) -> Input
+    ensures { λ r. ⌜ Within (length (now (room .exit))) r ⌝ }
 {
     let mut read = 0;
-    while read < plan.len() {
-        let input = read_once(&mut plan[read..]);
+    while read < room.len() {
+        let input = read_once(&mut room[read..]);
         let Input::Read(more) = input else {
             return Input::Failed;
         };
@@ -52,6 +52,13 @@ fn read_plan(plan: &mut [u8]) -> Input
         read += more;
     }
     Input::Read(read)
+}
+
+// Reads the first bytes of standard input, as many as decide any plan.
+fn read_plan(plan: &mut [u8; DECIDING]) -> Input
+    ensures { λ r. ⌜ Within (length (now (plan .exit))) r ⌝ }
+{
+    fill(plan)
 }
 
 fn main() {

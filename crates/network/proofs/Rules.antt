@@ -11,8 +11,8 @@ use lib.Dec.{T, leb, ltb, eqb}
 use Rattle.bitset.specs.Members.{_∈_}
 use Rattle.bitset.proofs.Sets.{∈-dec}
 use Rattle.network.specs.declared.Network.{Network}
-use Rattle.network.specs.Record.{_when_, sizeFault, pairFault, endFault, absentFault, hasEdge, firstEnd, secondEnd, slotFault, faultOf, present}
-use Rattle.network.specs.Rules.{Rules}
+use Rattle.network.specs.Record.{_when_, sizeFault, pairFault, endFault, absentFault, hasEdge, firstEnd, secondEnd, slotFault, faultOf, present, Stored}
+use Rattle.network.specs.Rules.{Rules, FaultMeans}
 use Rattle.network.proofs.Refusals.{none-then, when-none, none-when, or-none, size-none, pair-none}
 use Rattle.network.proofs.Slots.{Accepted, accepted, accepted-none}
 
@@ -83,3 +83,7 @@ fault-rules N = (kept, λ r. accepted-none N (faultless r))
       terminals = none-pair 5 6 (N .nodes) (N .source) (N .sink) (r .terminals .0) (r .terminals .1) (r .terminals .2);
       slot-none = λ k l. slot-none r k l (∈-dec k (present N));
     }
+
+-- Beside the number stands what it means.
+pub fault-means : (N : Network) → Stored N → {r : ℕ} → r ≡ faultOf N → (r ≡ faultOf N) × FaultMeans N r
+fault-means N stored e = (e, record { stored = stored; kept = rw e (fault-rules N) })

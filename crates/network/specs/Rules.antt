@@ -1,11 +1,13 @@
 -- The paper's rules for a record, as propositions.
 --
---   Rules N      N keeps them all: it is a plan within the rules
+--   Rules N          N keeps them all: it is a plan within the rules
+--   FaultMeans N r   what the number r of the record test means
+use mathlib.Core.Logic.{_↔_}
 use mathlib.Core.Path.{_≡_}
 use Prim.Native.Nat.{ℕ, _≤_, _<_}
 use Rattle.bitset.specs.Members.{_∈_}
 use Rattle.network.specs.declared.Network.{Network}
-use Rattle.network.specs.Record.{firstEnd, secondEnd, present}
+use Rattle.network.specs.Record.{firstEnd, secondEnd, present, Stored}
 
 pub record Rules (N : Network) : Type 0 where
   pub size : (2 ≤ N .nodes) × (N .nodes ≤ 32)
@@ -13,3 +15,7 @@ pub record Rules (N : Network) : Type 0 where
   pub ends : (k : ℕ) → k < 64 → k ∈ present N
       → (firstEnd N k < N .nodes) × (secondEnd N k < N .nodes) × (firstEnd N k ≡ secondEnd N k → ⊥)
   pub absent : (k : ℕ) → k < 64 → (k ∈ present N → ⊥) → (firstEnd N k ≡ 0) × (secondEnd N k ≡ 0)
+
+pub record FaultMeans (N : Network) (r : ℕ) : Type 0 where
+  pub stored : Stored N
+  pub kept : (r ≡ 0) ↔ Rules N

@@ -9,6 +9,7 @@ use crate::refusal::TERMINAL_OUTSIDE;
 ghost use mathlib.Core.Path.{_≡_};
 ghost use Prim.Native.Nat.{_<_};
 ghost use Rattle.network.specs.Record.{sizeFault, pairFault, terminalFault, endFault, absentFault, slotFaultOf, slotsFault, faultOf};
+ghost use Rattle.network.specs.Rules.{FaultMeans};
 
 pub fn size_fault(nodes: u8) -> u8
     ensures { λ r. ⌜ r ≡ sizeFault nodes ⌝ }
@@ -99,6 +100,7 @@ fn slots_fault(network: Network) -> u8
 // The record test: the number of the record's first fault, 0 if it has none.
 pub fn fault(network: Network) -> u8
     ensures { λ r. ⌜ r ≡ faultOf network ⌝ }
+    ensures means { λ r. ⌜ FaultMeans network r ⌝ }
 {
     let size = size_fault(network.nodes);
     if size != 0 {

@@ -7,7 +7,7 @@
 --   verdictOf N c        what c is, or the refusal
 --   Says N c v           what the verdict v says of c
 --   VerdictMeans N c v   what the verdict v on c means
---   told v               the numbers of each case: that of the refusal, 0 beside a verdict, and that of the verdict, 0 beside a refusal
+--   numbersOf v          the numbers of each case: that of the refusal, 0 beside a verdict, and that of the verdict, 0 beside a refusal
 use mathlib.Core.Bool.{true, false, not}
 use mathlib.Core.Logic.{_↔_}
 use mathlib.Core.Path.{_≡_}
@@ -66,12 +66,12 @@ pub record VerdictMeans (N : Network) (c : ℕ) (v : Verdict) : Type 0 where
   pub says : Says N c v
 
 -- The refusal's number by the paper's table "Who causes a refusal", the verdict's by its place in the paper's order.
-pub record Told : Type 0 where
+pub record Numbers : Type 0 where
   pub refusal : ℕ
   pub verdict : ℕ
 
-abbrev pub told : Verdict → Told
-told NotCut = record { refusal = 0; verdict = 1 }
-told NotMinimal = record { refusal = 0; verdict = 2 }
-told Minimal = record { refusal = 0; verdict = 3 }
-told (Refused r) = record { refusal = r; verdict = 0 }
+abbrev pub numbersOf : Verdict → Numbers
+numbersOf NotCut = record { refusal = 0; verdict = 1 }
+numbersOf NotMinimal = record { refusal = 0; verdict = 2 }
+numbersOf Minimal = record { refusal = 0; verdict = 3 }
+numbersOf (Refused r) = record { refusal = r; verdict = 0 }

@@ -8,7 +8,7 @@ use node_set::NodeSet;
 ghost use mathlib.Core.Path.{_≡_};
 ghost use Rattle.network.specs.Record.{faultOf};
 ghost use Rattle.graph.specs.CutTests.{severed, allNeeded};
-ghost use Rattle.reach.specs.Answers.{verdictOf, VerdictMeans, told};
+ghost use Rattle.reach.specs.Answers.{verdictOf, VerdictMeans, numbersOf};
 
 // Whether without the edges of the set the source does not reach the sink.
 fn severed(network: Network, set: EdgeSet) -> bool
@@ -64,7 +64,7 @@ pub fn classify(network: Network, set: EdgeSet) -> Verdict
 
 // The number of a verdict's refusal, 0 if there is none.
 pub fn refusal_number(verdict: Verdict) -> u8
-    ensures { λ r. ⌜ r ≡ told verdict .refusal ⌝ }
+    ensures { λ r. ⌜ r ≡ numbersOf verdict .refusal ⌝ }
 {
     match verdict {
         Verdict::Refused(refusal) => refusal,
@@ -76,7 +76,7 @@ pub fn refusal_number(verdict: Verdict) -> u8
 
 // A verdict's place in the paper's order: 1 not a cut, 2 a cut but not minimal, 3 minimal; 0 for no verdict.
 pub fn verdict_number(verdict: Verdict) -> u8
-    ensures { λ r. ⌜ r ≡ told verdict .verdict ⌝ }
+    ensures { λ r. ⌜ r ≡ numbersOf verdict .verdict ⌝ }
 {
     match verdict {
         Verdict::Refused(_) => 0,

@@ -27,12 +27,12 @@ use Rattle.report.specs.Report.{listReport, reportOf, Reported}
 -- ---- the list call
 
 -- More minimal cuts than rows are reported by 12.
-report-outnumbered : (N : Network) → maxRows < length (mincuts N) → listReport N ≡ refusalLine 12
+pub report-outnumbered : (N : Network) → maxRows < length (mincuts N) → listReport N ≡ refusalLine 12
 unfolding listReport
 report-outnumbered N h = rw (lt-ltb maxRows (length (mincuts N)) h, listReport)
 
 -- Otherwise the list is reported.
-report-complete : (N : Network) → length (mincuts N) ≤ maxRows → listReport N ≡ listText (mincuts N) (sourceSides N)
+pub report-complete : (N : Network) → length (mincuts N) ≤ maxRows → listReport N ≡ listText (mincuts N) (sourceSides N)
 unfolding listReport
 report-complete N h = rw (le-ltb maxRows (length (mincuts N)) h, listReport)
 

@@ -2,7 +2,7 @@
 -- Assumes nothing.
 use mathlib.Core.Path.{ap, _∙_}
 use Rattle.reach.specs.declared.Verdict.{Verdict}
-use Rattle.reach.specs.Answers.{verdictOf, told}
+use Rattle.reach.specs.Answers.{verdictOf, numbersOf}
 use Rattle.capi.proofs.Judging.{judged-means}
 use borrow.Author.Needs.{needs}
 use Rattle.capi.proofs.cutlist_classify.Statement.{statement}
@@ -27,8 +27,8 @@ returns c =
     let N = c .before .before .before .assemble .ensures in
     let judged = call .0 ∙ ap (λ N. verdictOf N (a .set)) N in (
       record {
-        refusal = c .refusal-number .ensures ∙ ap (λ (v : Verdict). told v .refusal) judged;
-        verdict = c .before .verdict-number .ensures ∙ ap (λ (v : Verdict). told v .verdict) judged;
+        refusal = c .refusal-number .ensures ∙ ap (λ (v : Verdict). numbersOf v .refusal) judged;
+        verdict = c .before .verdict-number .ensures ∙ ap (λ (v : Verdict). numbersOf v .verdict) judged;
       },
       judged-means (call .1) N (c .refusal-number .ensures) (c .before .verdict-number .ensures),
     )

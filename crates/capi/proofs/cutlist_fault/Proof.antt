@@ -13,7 +13,9 @@ fault-requires : tie.Need-fault-requires
 fault-requires c κs = search needs
 
 returns : tie.Need-returns
-returns c = c .fault .ensures ∙ ap faultOf (c .before .assemble .ensures)
+returns c =
+    let N = c .before .assemble .ensures in
+    (c .fault .ensures .0 ∙ ap faultOf N, rw N at (c .fault .ensures .1))
 
 pub cutlist-fault-spec : {M : Type 1} → statement M
 cutlist-fault-spec = tie.close (tie.spec assemble-requires fault-requires returns)

@@ -8,9 +8,6 @@ use Rattle.report.proofs.Reports.{report-read}
 use Rattle.list.proofs.main.Statement.{statement}
 use Rattle.list.proofs.main.Tie as tie
 
-slice-aggregate-read-plan : tie.Need-slice-aggregate-read-plan
-slice-aggregate-read-plan c = search needs
-
 read-plan-requires : tie.Need-read-plan-requires
 read-plan-requires c κs = search needs
 
@@ -57,7 +54,6 @@ pub main-spec : {M : Type 1} → statement M
 main-spec =
     tie.close
     (tie.spec
-    slice-aggregate-read-plan
     read-plan-requires
     enum-known-input
     enum-told

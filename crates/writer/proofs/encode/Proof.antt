@@ -26,7 +26,7 @@ returns c =
     let start = c .before .before .before in
     written-means (start .args .network) (stored start) _
     (encode-refused (start .args .network) _ _
-    (c .before .fault .ensures ∙ sym (some-then _ _ (omega (arith, c .before .fault .ensures)))) (c .if1 .taken))
+    (c .before .fault .ensures .0 ∙ sym (some-then _ _ (omega (arith, c .before .fault .ensures .0)))) (c .if1 .taken))
 
 encoded-length-requires : tie.Need-encoded-length-requires
 encoded-length-requires c κs = search needs
@@ -36,7 +36,7 @@ unfolding encodeRefusal
 returns-2 c =
     let start = c .before .before .before .before .before in
     let N = start .args .network in
-    let none = sym (c .before .before .before .fault .ensures) ∙ c .before .before .if1 .left in
+    let none = sym (c .before .before .before .fault .ensures .0) ∙ c .before .before .if1 .left in
     written-means N (stored start) _
     (encode-refused N _ 15 (sym (none-then _ none ∙ some-when 15 (lt-ltb _ _ (rw (c .before .encoded-length .ensures) at (c .if2 .taken))))) (λ e. omega arith))
 
@@ -74,7 +74,7 @@ returns-3 c =
     let room : length (encodeOf (a .network)) ≤ length (a .plan .now) = rw count at (c .before .before .before .before .before .before .before .before .if2 .left) in
     written-means (a .network) (stored start) _
     (encode-written (a .network) (a .plan .now) _ _
-    (none-then _ (sym (c .before .before .before .before .before .before .before .before .before .before .before .fault .ensures) ∙ c .before .before .before .before .before .before .before .before .before .before .if1 .left) ∙ none-when 15 (le-ltb _ _ room))
+    (none-then _ (sym (c .before .before .before .before .before .before .before .before .before .before .before .fault .ensures .0) ∙ c .before .before .before .before .before .before .before .before .before .before .if1 .left) ∙ none-when 15 (le-ltb _ _ room))
     count
     (end-bytes (a .network) (a .plan .now) room (p .result) (p .last .0) (rw (c .before .before .before .before .before .before .put-header .ensures) at (p .ensures .0)) (p .ensures .1)))
 

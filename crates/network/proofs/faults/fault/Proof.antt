@@ -2,18 +2,25 @@
 -- Assumes nothing.
 use mathlib.Core.Path.{sym, _∙_}
 use native.Mathlib.Omega.{arith}
-use Rattle.network.specs.Record.{faultOf}
+use Rattle.network.specs.Record.{faultOf, Stored}
 use Rattle.network.proofs.Refusals.{none-then, some-then}
+use Rattle.network.proofs.Rules.{fault-means}
 use borrow.Author.Needs.{needs}
 use Rattle.network.proofs.faults.fault.Statement.{statement}
 use Rattle.network.proofs.faults.fault.Tie as tie
+
+-- What the types say of the record.
+stored : (c : tie.Start) → Stored (c .args .network)
+stored c = search needs
 
 size-fault-requires : tie.Need-size-fault-requires
 size-fault-requires c κs = search needs
 
 returns : tie.Need-returns
 unfolding faultOf
-returns c = c .before .size-fault .ensures ∙ sym (some-then _ _ (omega (arith, c .before .size-fault .ensures)))
+returns c =
+    fault-means _ (stored (c .before .before))
+    (c .before .size-fault .ensures ∙ sym (some-then _ _ (omega (arith, c .before .size-fault .ensures))))
 
 terminal-fault-requires : tie.Need-terminal-fault-requires
 terminal-fault-requires c κs = search needs
@@ -21,8 +28,9 @@ terminal-fault-requires c κs = search needs
 returns-2 : tie.Need-returns-2
 unfolding faultOf
 returns-2 c =
-    c .before .terminal-fault .ensures
-    ∙ sym (none-then _ (sym (c .before .before .before .size-fault .ensures) ∙ c .before .before .if1 .left) ∙ some-then _ _ (omega (arith, c .before .terminal-fault .ensures)))
+    fault-means _ (stored (c .before .before .before .before))
+    (c .before .terminal-fault .ensures
+    ∙ sym (none-then _ (sym (c .before .before .before .size-fault .ensures) ∙ c .before .before .if1 .left) ∙ some-then _ _ (omega (arith, c .before .terminal-fault .ensures))))
 
 slots-fault-requires : tie.Need-slots-fault-requires
 slots-fault-requires c κs = search needs
@@ -30,8 +38,9 @@ slots-fault-requires c κs = search needs
 returns-3 : tie.Need-returns-3
 unfolding faultOf
 returns-3 c =
-    c .slots-fault .ensures
-    ∙ sym (none-then _ (sym (c .before .before .before .before .size-fault .ensures) ∙ c .before .before .before .if1 .left) ∙ none-then _ (sym (c .before .before .terminal-fault .ensures) ∙ c .before .if2 .left))
+    fault-means _ (stored (c .before .before .before .before .before))
+    (c .slots-fault .ensures
+    ∙ sym (none-then _ (sym (c .before .before .before .before .size-fault .ensures) ∙ c .before .before .before .if1 .left) ∙ none-then _ (sym (c .before .before .terminal-fault .ensures) ∙ c .before .if2 .left)))
 
 pub fault-spec : {M : Type 1} → statement M
 fault-spec =

@@ -23,14 +23,14 @@ returns c =
     let a = start .args in
     let r = c .before .fault in
     verdict-means (a .network) (stored start) (a .set .0)
-    (verdict-refused (a .network) (a .set .0) (r .result) (judge-record (a .network) (a .set .0) (r .result) (r .ensures) (c .if1 .taken)) (c .if1 .taken))
+    (verdict-refused (a .network) (a .set .0) (r .result) (judge-record (a .network) (a .set .0) (r .result) (r .ensures .0) (c .if1 .taken)) (c .if1 .taken))
 
 is-subset-requires : tie.Need-is-subset-requires
 is-subset-requires c κs = search needs
 
 -- The network is accepted.
 accepted : (c : tie.Else1) → faultOf (c .before .before .args .network) ≡ 0
-accepted c = sym (c .before .fault .ensures) ∙ c .if1 .left
+accepted c = sym (c .before .fault .ensures .0) ∙ c .if1 .left
 
 returns-2 : tie.Need-returns-2
 returns-2 c =

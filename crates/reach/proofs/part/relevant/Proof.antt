@@ -25,7 +25,7 @@ empty-requires-2 c κs = search needs
 returns : tie.Need-returns
 returns c =
     let start = c .before .before .before .before in
-    let part = part-refused (start .args .network) _ _ _ (c .before .before .before .fault .ensures) (c .before .before .if1 .taken)
+    let part = part-refused (start .args .network) _ _ _ (c .before .before .before .fault .ensures .0) (c .before .before .if1 .taken)
     (empty-zero _ (c .before .empty .ensures)) (empty-zero _ (c .empty2 .ensures)) in
     (part, part-means (start .args .network) (stored start) _ part)
 
@@ -40,7 +40,7 @@ unfolding relevantEdges
 returns-2 c =
     let N = c .before .before .before .before .args .network in
     let nodes = c .before .relevant-nodes .ensures in
-    let part = part-accepted N _ _ (sym (c .before .before .before .fault .ensures) ∙ c .before .before .if1 .left) nodes
+    let part = part-accepted N _ _ (sym (c .before .before .before .fault .ensures .0) ∙ c .before .before .if1 .left) nodes
     (c .edges-within .ensures ∙ ap (edgesWithin N) nodes) in
     (part, part-means N (stored (c .before .before .before .before)) _ part)
 

@@ -1,18 +1,18 @@
--- `read_plan` meets its contract. The loop's invariant: no more bytes are counted than the plan has room for. The measure is the room left.
+-- `fill` meets its contract. The loop's invariant: no more bytes are counted than there is room for. The measure is the room left.
 -- Assumes nothing.
 use mathlib.Core.Path.{_≡_}
 use Prim.Native.Nat.{_-_, _≤_}
 use native.Mathlib.Omega.{arith}
 use lib.ListN.{length}
 use borrow.Author.Needs.{needs}
-use Rattle.list.proofs.read_plan.Statement.{statement}
-use Rattle.list.proofs.read_plan.Tie as tie
+use Rattle.list.proofs.fill.Statement.{statement}
+use Rattle.list.proofs.fill.Tie as tie
 
 abbrev Inv-loop : tie.InvT-loop
-Inv-loop plan₀ read₀ plan read = (read ≤ length plan) × (length plan ≡ length plan₀)
+Inv-loop room₀ read₀ room read = (read ≤ length room) × (length room ≡ length room₀)
 
 abbrev μ-loop : tie.MeasureT-loop
-μ-loop plan₀ read₀ plan read = length plan - read
+μ-loop room₀ read₀ room read = length room - read
 
 -- No more bytes were read than there was room for.
 more : (c : tie.Else1 Inv-loop μ-loop)
@@ -67,8 +67,8 @@ same-length-3 c = search needs
 returns-3 : tie.Need-returns-3 Inv-loop μ-loop
 returns-3 c = search needs
 
-pub read-plan-spec : {M : Type 1} → statement M
-read-plan-spec =
+pub fill-spec : {M : Type 1} → statement M
+fill-spec =
     tie.close
     (tie.spec
     Inv-loop
