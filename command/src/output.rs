@@ -19,7 +19,8 @@ pub fn say(message: impl fmt::Display) {
     let _ = writeln!(io::stderr(), "cutlist: {message}");
 }
 
-/// A file's name on one line.
+/// A file's name on one line. What cannot be seen in it, or turns the line round, is shown as `?`.
 pub fn shown(name: &OsStr) -> String {
-    name.to_string_lossy().replace(char::is_control, "?")
+    let unseen = |c: char| !matches!(c, '\'' | '"' | '\\') && c.escape_debug().count() > 1;
+    name.to_string_lossy().replace(unseen, "?")
 }

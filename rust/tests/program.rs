@@ -2,6 +2,8 @@
 
 use std::fs;
 use std::io::Write;
+use std::net::{TcpListener, TcpStream};
+use std::os::fd::OwnedFd;
 use std::path::{Path, PathBuf};
 use std::process::{Command, Stdio};
 use std::thread;
@@ -83,15 +85,14 @@ fn expected(input: &[u8]) -> String {
     text
 }
 
-/// The bytes of a hall's text: hexadecimal digits, comments after '#'.
+/// The bytes of a hall's text: two hexadecimal digits each, parted by spaces, comments after '#'.
 fn bytes_of(text: &str) -> Vec<u8> {
-    let digits: String = text
-        .lines()
-        .map(|line| line.split('#').next().unwrap_or(""))
-        .flat_map(|line| line.chars().filter(char::is_ascii_hexdigit))
-        .collect();
-    (0..digits.len() / 2)
-        .map(|i| u8::from_str_radix(&digits[2 * i..2 * i + 2], 16).expect("digits"))
+    text.lines()
+        .flat_map(|line| line.split('#').next().unwrap_or("").split_whitespace())
+        .map(|byte| {
+            assert_eq!(byte.len(), 2, "{byte}");
+            u8::from_str_radix(byte, 16).expect("digits")
+        })
         .collect()
 }
 
@@ -199,6 +200,35 @@ fn a_read_that_fails_is_said_and_nothing_is_printed() {
     );
     assert_eq!(redirected("< crates"), said);
     assert_eq!(redirected("<&-"), said);
+}
+
+/// The bridge arrives, and then the connection is reset: a socket that is dropped with bytes unread resets it.
+#[test]
+fn a_read_that_fails_after_the_whole_plan_is_said_too() {
+    let listener = TcpListener::bind("127.0.0.1:0").expect("a port");
+    let mut input =
+        TcpStream::connect(listener.local_addr().expect("its address")).expect("a connection");
+    let (mut sender, _) = listener.accept().expect("its other end");
+    input.write_all(b"unread").expect("sent");
+    let program = Command::new(root().join("target/bin/list"))
+        .stdin(OwnedFd::from(input))
+        .stdout(Stdio::piped())
+        .stderr(Stdio::piped())
+        .spawn()
+        .expect("the list program");
+    sender
+        .write_all(&plans::bytes(&halls::bridge()))
+        .expect("sent");
+    thread::sleep(Duration::from_millis(100));
+    drop(sender);
+    let ended = program.wait_with_output().expect("its end");
+    assert_eq!(
+        (text(&ended.stdout), text(&ended.stderr)),
+        (
+            String::new(),
+            "list: cannot read standard input\n".to_string()
+        )
+    );
 }
 
 #[test]
