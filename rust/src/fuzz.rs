@@ -7,9 +7,11 @@
 //! - `making`: the byte string of each number under a seed
 //! - `search`: case after case until the answers differ
 //! - `shrinking`: a byte string made smaller while the answers still differ
+//! - `digest`: one number for all answers of the library
 
 pub mod case;
 pub mod counts;
+pub mod digest;
 pub mod making;
 pub mod questions;
 pub mod search;

@@ -9,6 +9,7 @@ use std::process::Command;
 
 use cutlist_tests::fuzz::case::{self, Case, Size, FIELDS, FITTED, HEAD, RAW};
 use cutlist_tests::fuzz::counts::Counts;
+use cutlist_tests::fuzz::digest::digest;
 use cutlist_tests::fuzz::search::{panic_of, search};
 use cutlist_tests::fuzz::shrinking::shrink;
 use cutlist_tests::fuzz::{making, questions};
@@ -147,6 +148,21 @@ fn a_case_is_fixed_by_seed_and_number() {
     }
 }
 
+/// The number is that of the cases in their order.
+#[test]
+fn the_digest_is_fixed_by_the_cases() {
+    let made: Vec<Vec<u8>> = cases(89, 20).map(|(_, bytes)| bytes).collect();
+    let whole = digest(made.clone());
+    assert_eq!(digest(made.clone()), whole);
+    let turned: Vec<Vec<u8>> = made.iter().rev().cloned().collect();
+    assert_ne!(digest(turned), whole);
+    for left_out in 0..made.len() {
+        let mut fewer = made.clone();
+        fewer.remove(left_out);
+        assert_ne!(digest(fewer), whole, "case {left_out}");
+    }
+}
+
 /// Among the cases that are made, no kind is missing.
 #[test]
 fn cases_of_every_kind_are_made() {
@@ -261,6 +277,10 @@ fn the_command() {
     let (code, text) = run(&["--seed", "88", "--case", "7"]);
     assert_eq!(code, Some(0), "{text}");
     assert!(text.contains("no difference in 1 cases"), "{text}");
+
+    let (code, text) = run(&["--digest", "--seed", "88", "--cases", "7"]);
+    let number = digest(cases(88, 7).map(|(_, bytes)| bytes));
+    assert_eq!((code, text), (Some(0), format!("{number:016x}\n")));
 
     let file = Path::new(env!("CARGO_TARGET_TMPDIR")).join("fuzz-replay");
     fs::write(&file, making::bytes(88, 7)).expect("a file");

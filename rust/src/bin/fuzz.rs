@@ -9,6 +9,8 @@
 //!   --each         names each case before it is tried, so that a crash shows its case
 //!   --replay FILE  the bytes of a file alone
 //!   --smoke        a fixed seed and number of cases, which must meet every kind of answer
+//!   --digest       one number for all that the library answers on the cases of the smoke run, or on
+//!                  those of --seed and --cases
 
 use std::env;
 use std::fs;
@@ -18,15 +20,16 @@ use std::time::{Duration, Instant, SystemTime, UNIX_EPOCH};
 
 use cutlist_tests::fuzz::case::Case;
 use cutlist_tests::fuzz::counts::Counts;
+use cutlist_tests::fuzz::digest::digest;
 use cutlist_tests::fuzz::search::{panic_of, search, Difference};
 use cutlist_tests::fuzz::shrinking::shrink;
 use cutlist_tests::fuzz::{making, questions};
 
 const COMMAND: &str = "cargo run --release --offline --manifest-path rust/Cargo.toml --bin fuzz --";
 
-/// The smoke run.
-const SMOKE_SEED: u64 = 1;
-const SMOKE_CASES: u64 = 60_000;
+/// The fixed run: of the smoke run and of the digest.
+const FIXED_SEED: u64 = 1;
+const FIXED_CASES: u64 = 60_000;
 
 /// Byte strings tried while one is made smaller.
 const TRIES: usize = 10_000;
@@ -40,6 +43,7 @@ struct Options {
     each: bool,
     replay: Option<PathBuf>,
     smoke: bool,
+    digest: bool,
 }
 
 impl Options {
@@ -56,6 +60,7 @@ impl Options {
                 "--each" => options.each = true,
                 "--replay" => options.replay = Some(value()?.into()),
                 "--smoke" => options.smoke = true,
+                "--digest" => options.digest = true,
                 _ => return Err(format!("{name} is no option")),
             }
         }
@@ -73,13 +78,23 @@ fn main() -> ExitCode {
     };
     match &options.replay {
         Some(file) => replay(file),
+        None if options.digest => tell_digest(&options),
         None => run(&options),
     }
 }
 
+/// Says the number of all answers of the library.
+fn tell_digest(options: &Options) -> ExitCode {
+    let seed = options.seed.unwrap_or(FIXED_SEED);
+    let cases = 0..options.cases.unwrap_or(FIXED_CASES);
+    let number = digest(cases.map(|case| making::bytes(seed, case)));
+    println!("{number:016x}");
+    ExitCode::SUCCESS
+}
+
 fn run(options: &Options) -> ExitCode {
     let seed = match options.smoke {
-        true => SMOKE_SEED,
+        true => FIXED_SEED,
         false => options.seed.unwrap_or_else(seed_by_the_clock),
     };
     println!(
@@ -88,7 +103,7 @@ fn run(options: &Options) -> ExitCode {
 
     let (first, count) = match (options.case, options.cases) {
         (Some(case), _) => (case, 1),
-        _ if options.smoke => (0, SMOKE_CASES),
+        _ if options.smoke => (0, FIXED_CASES),
         (None, cases) => (0, cases.unwrap_or(u64::MAX)),
     };
     let seconds = match (options.seconds, count) {

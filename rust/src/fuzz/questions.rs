@@ -11,7 +11,7 @@ use crate::{brute, compare, sides};
 
 /// The longest list that the reference makes, so that it answers soon whatever the hall. A hall
 /// with more cuts than that gets no more rows than that, and the answer can only be 12.
-const LONGEST_LIST: usize = 2_048;
+pub const LONGEST_LIST: usize = 2_048;
 
 /// Asks every function.
 pub fn ask(bytes: &[u8], counts: &mut Counts) {
@@ -40,13 +40,14 @@ fn on_the_record(case: &Case, counts: &mut Counts) {
         _ => Known::nothing(),
     };
 
-    let needed = 6 + 4 * record.present.count_ones() as usize;
-    let buffer = rng.bytes(case.buffer.measured(needed, LONGEST_PLAN));
+    let buffer = rng.bytes(case.buffer.measured(needed_bytes(record), LONGEST_PLAN));
     counts.encode.count(compare::encode(record, &buffer));
 
     counts.relevant.count(compare::relevant(record, known.part));
 
-    for set in sets(case, &known) {
+    let rows = known.rows.as_deref();
+    let cuts: Vec<u64> = rows.iter().copied().flatten().map(|row| row.cut).collect();
+    for set in sets(case, &cuts) {
         // A cable not present is refused before the verdict.
         let verdict = match fault == 0 && set & !record.present == 0 {
             true => known.verdict(record, set),
@@ -59,16 +60,14 @@ fn on_the_record(case: &Case, counts: &mut Counts) {
         }
     }
 
-    let rows = known.rows.as_deref();
-    for (cut_rows, side_rows) in lent_rows(case, &known) {
+    for (cut_rows, side_rows) in lent_rows(case, rows.map(<[Row]>::len), known.ample) {
         let (cuts, sides) = lent::stale_rows(&mut rng, cut_rows, side_rows);
         counts
             .list
             .count(compare::list(record, rows, &cuts, &sides));
     }
-    if let Some(rows @ [_, ..]) = rows {
-        counts.listed(rows.len());
-        let cuts: Vec<u64> = rows.iter().map(|row| row.cut).collect();
+    if !cuts.is_empty() {
+        counts.listed(cuts.len());
         widths(&cuts, counts);
     }
 }
@@ -78,33 +77,43 @@ fn widths(cuts: &[u64], counts: &mut Counts) {
     counts.widths += 1;
 }
 
-/// The sets to judge: any, the present cables among them, and a minimal cut with one cable more,
-/// less or other.
-fn sets(case: &Case, known: &Known) -> Vec<u64> {
+/// The bytes of the record's plan.
+pub fn needed_bytes(record: &Record) -> usize {
+    6 + 4 * record.present.count_ones() as usize
+}
+
+/// The sets to judge: any, the present cables among them, and, if the list is known, a minimal cut
+/// with one cable more, less or other.
+pub fn sets(case: &Case, cuts: &[u64]) -> Vec<u64> {
     let (any, present) = (case.set, case.record.present);
     let mut sets = vec![any, any & present];
-    if let Some(rows @ [_, ..]) = known.rows.as_deref() {
-        let cut = rows[(any % rows.len() as u64) as usize].cut;
+    if !cuts.is_empty() {
+        let cut = cuts[(any % cuts.len() as u64) as usize];
         let edge = 1 << (any >> 58);
         sets.extend([cut, cut ^ edge & present, cut | edge, cut ^ edge]);
     }
     sets
 }
 
-/// The numbers of cut rows and side rows to lend: those of the case, and exactly the rows needed.
-fn lent_rows(case: &Case, known: &Known) -> Vec<(usize, usize)> {
-    let cuts = match &known.rows {
-        Some(rows) => case.rows.measured(rows.len(), known.ample),
-        None => case
-            .rows
-            .measured(LONGEST_LIST, known.ample)
-            .min(LONGEST_LIST),
+/// The numbers of cut rows and side rows to lend: those of the case, and exactly the rows needed, if
+/// that is known.
+pub fn lent_rows(case: &Case, needed: Option<usize>, ample: usize) -> Vec<(usize, usize)> {
+    let cuts = match needed {
+        Some(rows) => case.rows.measured(rows, ample),
+        None => case.rows.measured(LONGEST_LIST, ample).min(LONGEST_LIST),
     };
     let mut lent = vec![(cuts, cuts.saturating_add_signed(case.more_sides))];
-    if let Some(rows) = &known.rows {
-        lent.push((rows.len(), rows.len()));
-    }
+    lent.extend(needed.map(|rows| (rows, rows)));
     lent
+}
+
+/// The number of sets of useful points between server and room, or 4,096 if that is less. Without a
+/// useful part it is 0.
+pub fn ample(part: Part) -> usize {
+    match part.nodes.count_ones() {
+        0 => 0,
+        nodes => 1 << (nodes - 2).min(12),
+    }
 }
 
 /// What the reference says of a record.
@@ -160,9 +169,4 @@ impl Known {
             None => sides::verdict(record, set),
         }
     }
-}
-
-/// The number of sets of useful points between server and room, or 4,096 if that is less.
-fn ample(part: Part) -> usize {
-    1 << (part.nodes.count_ones() - 2).min(12)
 }

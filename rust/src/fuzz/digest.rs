@@ -1,0 +1,104 @@
+//! One number for all that the library answers to a run of cases: refusals, out parameters, and lent
+//! bytes and rows as the calls left them. A change that should change no answer leaves the number as
+//! it was. The reference has no part in it, and neither have names and types: a number counts as its
+//! eight bytes, whatever its width.
+
+use crate::fuzz::case::{self, Case};
+use crate::fuzz::questions::{ample, lent_rows, needed_bytes, sets, LONGEST_LIST};
+use crate::lent;
+use crate::record::Record;
+use crate::reference::LONGEST_PLAN;
+use crate::rng::Rng;
+use crate::sys;
+
+/// FNV-1a of 64 bits. Each step can be undone, so that one byte changed always changes the number.
+struct Digest(u64);
+
+impl Digest {
+    fn new() -> Digest {
+        Digest(0xCBF2_9CE4_8422_2325)
+    }
+
+    fn bytes(&mut self, bytes: &[u8]) {
+        for &byte in bytes {
+            self.0 = (self.0 ^ u64::from(byte)).wrapping_mul(0x0100_0000_01B3);
+        }
+    }
+
+    fn number(&mut self, number: impl Into<u64>) {
+        self.bytes(&number.into().to_le_bytes());
+    }
+
+    fn numbers<N: Into<u64> + Copy>(&mut self, numbers: &[N]) {
+        for &number in numbers {
+            self.number(number);
+        }
+    }
+}
+
+/// The number of these cases.
+pub fn digest(cases: impl IntoIterator<Item = Vec<u8>>) -> u64 {
+    let mut digest = Digest::new();
+    for bytes in cases {
+        answers(&Case::of(&bytes), &mut digest);
+    }
+    digest.0
+}
+
+/// Asks every function.
+fn answers(case: &Case, digest: &mut Digest) {
+    let record = &case.record;
+    let mut rng = Rng::new(case.set);
+
+    let (refusal, read) = sys::decode_before(case.plan, case.beyond);
+    digest.number(refusal);
+    digest.bytes(&case::fields(&read));
+
+    digest.number(sys::fault(record));
+
+    let mut plan = rng.bytes(case.buffer.measured(needed_bytes(record), LONGEST_PLAN));
+    let (refusal, count) = sys::encode(record, &mut plan);
+    digest.number(refusal);
+    digest.number(count as u64);
+    digest.bytes(&plan);
+
+    let (refusal, part) = sys::relevant(record);
+    digest.number(refusal);
+    digest.number(part.nodes);
+    digest.number(part.edges);
+
+    // What else is asked follows from the list, if it is not too long.
+    let listed = list(record, (LONGEST_LIST, LONGEST_LIST), &mut rng, digest);
+    let rows = listed.as_ref().map(Vec::len);
+    for lent in lent_rows(case, rows, ample(part)) {
+        list(record, lent, &mut rng, digest);
+    }
+
+    let cuts = listed.unwrap_or_default();
+    for set in sets(case, &cuts) {
+        let (refusal, verdict) = sys::classify(record, set);
+        digest.number(refusal);
+        digest.number(verdict);
+    }
+
+    for cuts in [case::words(case.body), cuts] {
+        digest.numbers(&sys::widths(&cuts));
+    }
+}
+
+/// Lists into so many cut rows and side rows; gives the cuts, unless they are more.
+fn list(
+    record: &Record,
+    (cut_rows, side_rows): (usize, usize),
+    rng: &mut Rng,
+    digest: &mut Digest,
+) -> Option<Vec<u64>> {
+    let (mut cuts, mut sides) = lent::stale_rows(rng, cut_rows, side_rows);
+    let (refusal, count) = sys::list(record, &mut cuts, &mut sides);
+    digest.number(refusal);
+    digest.number(count as u64);
+    digest.numbers(&cuts);
+    digest.numbers(&sides);
+    cuts.truncate(count);
+    (refusal != 12).then_some(cuts)
+}
