@@ -61,33 +61,33 @@ enum cutlist_refusal {
     CUTLIST_ACCEPTED = 0,
 
     /* By what carried the bytes. */
-    CUTLIST_STOPS_EARLY = 1,      /* the plan stops early */
-    CUTLIST_UNFIT_BYTE = 2,       /* a byte that is no command fit for its place */
-    CUTLIST_BYTE_AFTER_END = 3,   /* a byte after 45 */
+    CUTLIST_TRUNCATED = 1,              /* the plan stops early */
+    CUTLIST_UNFIT_COMMAND = 2,          /* a byte that is no command fit for its place */
+    CUTLIST_TRAILING_BYTE = 3,          /* a byte after 45 */
 
     /* By the one who surveyed the hall. */
-    CUTLIST_POINT_COUNT = 4,      /* point count not 2 to 32 */
-    CUTLIST_SERVER_OR_ROOM = 5,   /* server or room not below the point count */
-    CUTLIST_SERVER_IS_ROOM = 6,   /* server and room the same point */
-    CUTLIST_CABLE_NUMBER = 7,     /* cable number above 63 */
-    CUTLIST_CABLE_ORDER = 8,      /* cable number not above the one before */
-    CUTLIST_CABLE_END = 9,        /* a cable end not below the point count */
-    CUTLIST_ENDS_AT_ONE = 10,     /* both ends of a cable at one point */
+    CUTLIST_BAD_NODE_COUNT = 4,         /* point count not 2 to 32 */
+    CUTLIST_TERMINAL_OUTSIDE = 5,       /* server or room not below the point count */
+    CUTLIST_SAME_TERMINALS = 6,         /* server and room the same point */
+    CUTLIST_EDGE_NUMBER_TOO_HIGH = 7,   /* cable number above 63 */
+    CUTLIST_EDGE_NUMBER_NOT_RISING = 8, /* cable number not above the one before */
+    CUTLIST_END_OUTSIDE = 9,            /* a cable end not below the point count */
+    CUTLIST_SAME_ENDS = 10,             /* both ends of a cable at one point */
 
     /* By the program that calls. */
-    CUTLIST_ROWS_DIFFER = 11,     /* cut rows and side rows differ in number */
-    CUTLIST_MORE_CUTS = 12,       /* more minimal cuts than rows lent */
-    CUTLIST_ABSENT_WITH_END = 13, /* an absent cable with an end not 0 */
-    CUTLIST_NOT_PRESENT = 14,     /* a judged set holds a cable not present */
-    CUTLIST_MORE_BYTES = 15       /* the plan needs more bytes than were lent */
+    CUTLIST_ROWS_DIFFER = 11,           /* cut rows and side rows differ in number */
+    CUTLIST_TOO_MANY_CUTS = 12,         /* more minimal cuts than rows lent */
+    CUTLIST_ABSENT_EDGE_NOT_ZERO = 13,  /* an absent cable with an end not 0 */
+    CUTLIST_EDGE_NOT_PRESENT = 14,      /* a judged set holds a cable not present */
+    CUTLIST_BUFFER_TOO_SHORT = 15       /* the plan needs more bytes than were lent */
 };
 
 /* What judging says of a set of cables. */
 enum cutlist_verdict {
-    CUTLIST_NO_VERDICT = 0,       /* the call refused */
-    CUTLIST_NOT_A_CUT = 1,        /* not a cut */
-    CUTLIST_NOT_MINIMAL = 2,      /* a cut but not minimal */
-    CUTLIST_MINIMAL = 3           /* minimal */
+    CUTLIST_NO_VERDICT = 0,  /* the call refused */
+    CUTLIST_NOT_CUT = 1,     /* not a cut */
+    CUTLIST_NOT_MINIMAL = 2, /* a cut but not minimal */
+    CUTLIST_MINIMAL = 3      /* minimal */
 };
 
 /*

@@ -1,5 +1,5 @@
-//! The header and this crate against the sources of the library: numbers, words and sizes, each
-//! read where it stands.
+//! The header and this crate against the sources of the library: numbers, names, words and sizes,
+//! each read where it stands. The reference of the tests has the same names.
 
 use std::collections::{BTreeMap, BTreeSet};
 use std::fmt::{Debug, Display};
@@ -12,14 +12,15 @@ use crate::sys;
 const HEADER: &str = include_str!("../../include/cutlist.h");
 const REFUSALS: &str = include_str!("../../crates/network/src/refusal.rt");
 const JUDGING: &str = include_str!("../../crates/reach/src/judging.rt");
+const REFERENCE: &str = include_str!("../../rust/src/reference.rs");
 const EXPORTED: &str = include_str!("../../crates/capi/src/lib.rt");
 const LONGEST_PROVED: &str = include_str!("../../crates/format/proofs/Longest.antt");
 const DECIDING_PROVED: &str = include_str!("../../crates/format/proofs/Prefix.antt");
 
-/// Words by number.
-type Words = BTreeMap<u8, String>;
+/// Names by number, as the library has them: EDGE_NOT_PRESENT.
+type Names = BTreeMap<u8, String>;
 
-/// Names of the header and words by number.
+/// Names and words by number.
 type Named = BTreeMap<u8, (String, String)>;
 
 /// Entries by number, of which none may come twice.
@@ -49,18 +50,18 @@ fn number<N: FromStr>(digits: &str) -> N {
 }
 
 /// The constants of refusal.rt, which holds nothing else: `pub const NAME: u8 = N; // words`.
-fn refusals_of_the_library() -> Words {
+fn refusals_of_the_library() -> Named {
     let constant = |line: &&str| !line.is_empty() && !line.starts_with("//");
     table(REFUSALS.lines().filter(constant).map(|line| {
         let (constant, words) = parted(line, "// ");
-        let value = between(constant, ": u8 = ", ";");
-        (number(value), words.to_string())
+        let (name, value) = parted(between(constant, "pub const ", ";"), ": u8 = ");
+        (number(value), (name.to_string(), words.to_string()))
     }))
 }
 
-/// The verdicts of judging.rt by the comment at `verdict_number`, "1 not a cut, 2 ..; 0 for no
-/// verdict", which must have the numbers of the code.
-fn verdicts_of_the_library() -> Words {
+/// The verdicts of judging.rt: their names by `verdict_number`, `Verdict::Name => N,`, and their
+/// words by the comment above it, "1 not a cut, 2 ..; 0 for no verdict".
+fn verdicts_of_the_library() -> Named {
     let (above, code) = parted(JUDGING, "\npub fn verdict_number(");
     let comment = above.lines().next_back().expect("a comment");
     let verdicts = between(comment, ": ", "; 0 for no verdict").split(", ");
@@ -68,46 +69,62 @@ fn verdicts_of_the_library() -> Words {
         let (value, words) = parted(verdict, " ");
         (number(value), words.to_string())
     }));
+
     let arms = between(code, "match verdict {", "\n    }").lines();
-    let given: BTreeSet<u8> = arms
-        .filter(|arm| !arm.is_empty())
-        .map(|arm| number(between(arm, "=>", ",")))
-        .collect();
-    assert!(given.iter().eq([0].iter().chain(words.keys())), "{given:?}");
-    words
+    let mut names = table(arms.filter(|arm| !arm.is_empty()).map(|arm| {
+        let (name, value) = parted(between(arm, "Verdict::", ","), " => ");
+        (number(value), spelled(name))
+    }));
+    assert!(names.remove(&0).is_some(), "no number 0");
+    assert!(names.keys().eq(words.keys()), "{names:?}, {words:?}");
+    let verdicts = names.into_iter().zip(words.into_values());
+    table(verdicts.map(|((number, name), words)| (number, (name, words))))
 }
 
-/// An enum of the header without its 0: `NAME = N, /* words */`, the last without the comma.
+/// An enum of the header without its 0: `CUTLIST_NAME = N, /* words */`, the last without comma.
 fn enum_of_the_header(name: &str) -> Named {
     let inside = between(HEADER, &format!("enum {name} {{"), "};");
     let lines = inside.lines().filter(|line| line.contains('='));
     let mut entries = table(lines.map(|line| {
-        let (name, rest) = parted(line, "=");
+        let (name, rest) = parted(parted(line, "CUTLIST_").1, " = ");
         let (value, words) = rest.split_once("/*").unwrap_or((rest, "*/"));
         let words = words.strip_suffix("*/").expect("one comment").trim();
         let value = value.trim_end().trim_end_matches(',');
-        (number(value), (name.trim().to_string(), words.to_string()))
+        (number(value), (name.to_string(), words.to_string()))
     }));
     assert!(entries.remove(&0).is_some(), "no number 0");
     entries
 }
 
-/// An item of this crate as the header has it: its name, `StopsEarly` being CUTLIST_STOPS_EARLY,
-/// and its words.
-fn named(item: impl Debug + Display) -> (String, String) {
-    let mut name = String::from("CUTLIST");
-    for letter in format!("{item:?}").chars() {
-        if letter.is_uppercase() {
-            name.push('_');
-        }
-        name.push(letter.to_ascii_uppercase());
-    }
-    (name, item.to_string())
+/// The refusals of the reference: `Name = N,`.
+fn refusals_of_the_reference() -> Names {
+    let inside = between(REFERENCE, "pub enum Refusal {", "}").trim();
+    table(inside.lines().map(|line| {
+        let (name, value) = parted(line.trim(), " = ");
+        (number(value.trim_end_matches(',')), spelled(name))
+    }))
 }
 
-fn words_of(named: &Named) -> Words {
+/// A name of Rust as the library writes it: EDGE_NOT_PRESENT for `EdgeNotPresent`.
+fn spelled(name: &str) -> String {
+    let mut spelled = String::new();
+    for letter in name.chars() {
+        if letter.is_uppercase() && !spelled.is_empty() {
+            spelled.push('_');
+        }
+        spelled.push(letter.to_ascii_uppercase());
+    }
+    spelled
+}
+
+/// The name of an item of this crate, and its words.
+fn named(item: impl Debug + Display) -> (String, String) {
+    (spelled(&format!("{item:?}")), item.to_string())
+}
+
+fn names_of(named: &Named) -> Names {
     let entries = named.iter();
-    entries.map(|(&k, (_, words))| (k, words.clone())).collect()
+    entries.map(|(&k, (name, _))| (k, name.clone())).collect()
 }
 
 /// A size that the header defines.
@@ -127,8 +144,9 @@ fn refusals_agree() {
     let library = refusals_of_the_library();
     let header = enum_of_the_header("cutlist_refusal");
     let this = table(Refusal::ALL.iter().map(|r| (r.number(), named(r))));
-    assert_eq!(words_of(&header), library, "header and library");
-    assert_eq!(this, header, "crate and header");
+    assert_eq!(header, library, "header and library");
+    assert_eq!(this, library, "crate and library");
+    assert_eq!(refusals_of_the_reference(), names_of(&library));
     assert!(Refusal::ALL.is_sorted_by_key(|refusal| refusal.number()));
 }
 
@@ -138,8 +156,8 @@ fn verdicts_agree() {
     let header = enum_of_the_header("cutlist_verdict");
     let verdict = |k| Some((k, named(Verdict::from_number(k).ok()?)));
     let this = table((0..=u8::MAX).filter_map(verdict));
-    assert_eq!(words_of(&header), library, "header and library");
-    assert_eq!(this, header, "crate and header");
+    assert_eq!(header, library, "header and library");
+    assert_eq!(this, library, "crate and library");
 }
 
 #[test]

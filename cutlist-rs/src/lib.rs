@@ -30,7 +30,7 @@
 //! // A plan travels as bytes, and bytes outside the rules are refused.
 //! let bytes = plan.encode()?;
 //! assert_eq!(Plan::decode(&bytes)?, plan);
-//! assert_eq!(Plan::decode(&bytes[..25]), Err(Refusal::StopsEarly));
+//! assert_eq!(Plan::decode(&bytes[..25]), Err(Refusal::Truncated));
 //! # Ok::<(), Box<dyn std::error::Error>>(())
 //! ```
 

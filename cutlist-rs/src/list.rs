@@ -75,7 +75,7 @@ fn empty_sets<S: Clone + Default>(count: usize) -> Result<Vec<S>, TryReserveErro
 #[derive(Clone, Debug, PartialEq, Eq)]
 #[non_exhaustive]
 pub enum ListError {
-    /// The call refused: [`Refusal::MoreCuts`] if the plan has more minimal cuts than were asked
+    /// The call refused: [`Refusal::TooManyCuts`] if the plan has more minimal cuts than were asked
     /// for.
     Refused(Refusal),
     /// There is no memory for the rows.

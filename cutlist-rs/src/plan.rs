@@ -31,7 +31,7 @@ pub struct Relevant {
 #[derive(Clone, Copy, Debug, PartialEq, Eq, Hash)]
 pub enum Verdict {
     /// Not a cut.
-    NotACut,
+    NotCut,
     /// A cut but not minimal.
     NotMinimal,
     /// A minimal cut.
@@ -42,7 +42,7 @@ impl Verdict {
     /// The verdict of this number.
     pub(crate) fn from_number(number: u8) -> Result<Verdict, Refusal> {
         match number {
-            1 => Ok(Verdict::NotACut),
+            1 => Ok(Verdict::NotCut),
             2 => Ok(Verdict::NotMinimal),
             3 => Ok(Verdict::Minimal),
             _ => Err(Refusal::Unknown(number)),
@@ -54,7 +54,7 @@ impl Verdict {
 impl fmt::Display for Verdict {
     fn fmt(&self, f: &mut fmt::Formatter<'_>) -> fmt::Result {
         f.write_str(match self {
-            Verdict::NotACut => "not a cut",
+            Verdict::NotCut => "not a cut",
             Verdict::NotMinimal => "a cut but not minimal",
             Verdict::Minimal => "minimal",
         })
@@ -67,8 +67,8 @@ impl fmt::Display for Verdict {
 pub enum EdgeFault {
     /// The plan has a cable of this number already.
     Taken,
-    /// A plan with this cable would be refused: [`Refusal::CableNumber`], [`Refusal::CableEnd`] or
-    /// [`Refusal::EndsAtOne`].
+    /// A plan with this cable would be refused: [`Refusal::EdgeNumberTooHigh`],
+    /// [`Refusal::EndOutside`] or [`Refusal::SameEnds`].
     Refused(Refusal),
 }
 
@@ -132,7 +132,7 @@ impl Plan {
     fn and_edge(&self, number: u8, first: u8, second: u8) -> Result<Plan, EdgeFault> {
         let slot = usize::from(number);
         if slot >= sys::SLOTS {
-            return Err(EdgeFault::Refused(Refusal::CableNumber));
+            return Err(EdgeFault::Refused(Refusal::EdgeNumberTooHigh));
         }
         if self.present().contains(number) {
             return Err(EdgeFault::Taken);
@@ -196,8 +196,9 @@ impl Plan {
         present.then(|| (self.0.first[slot], self.0.second[slot]))
     }
 
-    /// The minimal cuts, if there are at most so many; else [`Refusal::MoreCuts`]. Without a route
-    /// there is one, the empty cut. There may be very many: a plan of n points can have 2^(n - 2).
+    /// The minimal cuts, if there are at most so many; else [`Refusal::TooManyCuts`]. Without a
+    /// route there is one, the empty cut. There may be very many: a plan of n points can have
+    /// 2^(n - 2).
     ///
     /// Memory is asked for as the list needs it, and never for more rows than `most`, each of 12
     /// bytes. If it is not there, that is an error too.
@@ -205,7 +206,7 @@ impl Plan {
         let mut rows = most.min(FIRST_ROWS);
         loop {
             match self.mincuts_in(rows) {
-                Err(ListError::Refused(Refusal::MoreCuts)) if rows < most => {
+                Err(ListError::Refused(Refusal::TooManyCuts)) if rows < most => {
                     rows = rows.saturating_mul(2).min(most);
                 }
                 result => return result,
@@ -295,10 +296,10 @@ mod tests {
 
     #[test]
     fn faults_are_refused_as_the_plan_is_built() {
-        assert_eq!(Plan::new(1, 0, 1), Err(Refusal::PointCount));
-        assert_eq!(Plan::new(33, 0, 1), Err(Refusal::PointCount));
-        assert_eq!(Plan::new(2, 0, 2), Err(Refusal::ServerOrRoom));
-        assert_eq!(Plan::new(2, 1, 1), Err(Refusal::ServerIsRoom));
+        assert_eq!(Plan::new(1, 0, 1), Err(Refusal::BadNodeCount));
+        assert_eq!(Plan::new(33, 0, 1), Err(Refusal::BadNodeCount));
+        assert_eq!(Plan::new(2, 0, 2), Err(Refusal::TerminalOutside));
+        assert_eq!(Plan::new(2, 1, 1), Err(Refusal::SameTerminals));
     }
 
     #[test]
@@ -312,12 +313,18 @@ mod tests {
             assert_eq!(error.into_plan(), bridge());
             fault
         };
-        assert_eq!(refused(64, 0, 1), EdgeFault::Refused(Refusal::CableNumber));
-        assert_eq!(refused(255, 0, 1), EdgeFault::Refused(Refusal::CableNumber));
+        assert_eq!(
+            refused(64, 0, 1),
+            EdgeFault::Refused(Refusal::EdgeNumberTooHigh)
+        );
+        assert_eq!(
+            refused(255, 0, 1),
+            EdgeFault::Refused(Refusal::EdgeNumberTooHigh)
+        );
         assert_eq!(refused(4, 0, 1), EdgeFault::Taken);
         assert_eq!(refused(4, 9, 9), EdgeFault::Taken);
-        assert_eq!(refused(5, 0, 4), EdgeFault::Refused(Refusal::CableEnd));
-        assert_eq!(refused(5, 2, 2), EdgeFault::Refused(Refusal::EndsAtOne));
+        assert_eq!(refused(5, 0, 4), EdgeFault::Refused(Refusal::EndOutside));
+        assert_eq!(refused(5, 2, 2), EdgeFault::Refused(Refusal::SameEnds));
 
         // The plan that was given back takes the next cable.
         let error = bridge().with_edge(4, 0, 3).expect_err("taken");
@@ -328,12 +335,12 @@ mod tests {
     #[test]
     fn bytes_are_read() {
         assert_eq!(Plan::decode(&BRIDGE), Ok(bridge()));
-        assert_eq!(Plan::decode(&[]), Err(Refusal::StopsEarly));
-        assert_eq!(Plan::decode(&[0x52]), Err(Refusal::UnfitByte));
-        assert_eq!(Plan::decode(&[0x50, 1]), Err(Refusal::PointCount));
+        assert_eq!(Plan::decode(&[]), Err(Refusal::Truncated));
+        assert_eq!(Plan::decode(&[0x52]), Err(Refusal::UnfitCommand));
+        assert_eq!(Plan::decode(&[0x50, 1]), Err(Refusal::BadNodeCount));
         let mut longer = BRIDGE.to_vec();
         longer.push(0x45);
-        assert_eq!(Plan::decode(&longer), Err(Refusal::ByteAfterEnd));
+        assert_eq!(Plan::decode(&longer), Err(Refusal::TrailingByte));
     }
 
     #[test]
@@ -342,7 +349,7 @@ mod tests {
         let mut lent = [0xAA; 27];
         assert_eq!(
             bridge().encode_into(&mut lent[..25]),
-            Err(Refusal::MoreBytes)
+            Err(Refusal::BufferTooShort)
         );
         assert_eq!(lent, [0xAA; 27]);
         assert_eq!(bridge().encode_into(&mut lent), Ok(26));
@@ -383,7 +390,7 @@ mod tests {
         assert_eq!(eleven.mincuts(usize::MAX), Ok(rows));
     }
 
-    const OUTNUMBERED: Result<Mincuts, ListError> = Err(ListError::Refused(Refusal::MoreCuts));
+    const OUTNUMBERED: Result<Mincuts, ListError> = Err(ListError::Refused(Refusal::TooManyCuts));
 
     #[test]
     fn more_cuts_than_the_bound_are_an_error() {
@@ -426,10 +433,13 @@ mod tests {
     fn lent_rows_must_suffice_and_be_equally_many() {
         let (mut cuts, mut sides) = ([EdgeSet(7); 4], [NodeSet(9); 4]);
         let short = bridge().list_into(&mut cuts[..3], &mut sides[..3]);
-        assert_eq!(short, Err(Refusal::MoreCuts));
+        assert_eq!(short, Err(Refusal::TooManyCuts));
         let uneven = bridge().list_into(&mut cuts, &mut sides[..3]);
         assert_eq!(uneven, Err(Refusal::RowsDiffer));
-        assert_eq!(bridge().list_into(&mut [], &mut []), Err(Refusal::MoreCuts));
+        assert_eq!(
+            bridge().list_into(&mut [], &mut []),
+            Err(Refusal::TooManyCuts)
+        );
         assert_eq!((cuts, sides), ([EdgeSet(7); 4], [NodeSet(9); 4]));
     }
 
@@ -445,10 +455,13 @@ mod tests {
 
     #[test]
     fn sets_are_judged() {
-        assert_eq!(bridge().classify(EdgeSet(9)), Ok(Verdict::NotACut));
+        assert_eq!(bridge().classify(EdgeSet(9)), Ok(Verdict::NotCut));
         assert_eq!(bridge().classify(EdgeSet(7)), Ok(Verdict::NotMinimal));
         assert_eq!(bridge().classify(EdgeSet(14)), Ok(Verdict::Minimal));
-        assert_eq!(bridge().classify(EdgeSet(1 << 5)), Err(Refusal::NotPresent));
+        assert_eq!(
+            bridge().classify(EdgeSet(1 << 5)),
+            Err(Refusal::EdgeNotPresent)
+        );
     }
 
     #[test]

@@ -49,21 +49,21 @@ macro_rules! refusals {
 }
 
 refusals! {
-    1 StopsEarly "the plan stops early"
-    2 UnfitByte "a byte that is no command fit for its place"
-    3 ByteAfterEnd "a byte after 45"
-    4 PointCount "point count not 2 to 32"
-    5 ServerOrRoom "server or room not below the point count"
-    6 ServerIsRoom "server and room the same point"
-    7 CableNumber "cable number above 63"
-    8 CableOrder "cable number not above the one before"
-    9 CableEnd "a cable end not below the point count"
-    10 EndsAtOne "both ends of a cable at one point"
+    1 Truncated "the plan stops early"
+    2 UnfitCommand "a byte that is no command fit for its place"
+    3 TrailingByte "a byte after 45"
+    4 BadNodeCount "point count not 2 to 32"
+    5 TerminalOutside "server or room not below the point count"
+    6 SameTerminals "server and room the same point"
+    7 EdgeNumberTooHigh "cable number above 63"
+    8 EdgeNumberNotRising "cable number not above the one before"
+    9 EndOutside "a cable end not below the point count"
+    10 SameEnds "both ends of a cable at one point"
     11 RowsDiffer "cut rows and side rows differ in number"
-    12 MoreCuts "more minimal cuts than rows lent"
-    13 AbsentWithEnd "an absent cable with an end not 0"
-    14 NotPresent "a judged set holds a cable not present"
-    15 MoreBytes "the plan needs more bytes than were lent"
+    12 TooManyCuts "more minimal cuts than rows lent"
+    13 AbsentEdgeNotZero "an absent cable with an end not 0"
+    14 EdgeNotPresent "a judged set holds a cable not present"
+    15 BufferTooShort "the plan needs more bytes than were lent"
 }
 
 impl Refusal {

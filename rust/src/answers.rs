@@ -19,7 +19,7 @@ pub struct Row {
 /// What judging says of a set of cables.
 #[derive(Clone, Copy, Debug, PartialEq, Eq)]
 pub enum Verdict {
-    NotACut = 1,
+    NotCut = 1,
     NotMinimal = 2,
     Minimal = 3,
 }

@@ -73,7 +73,7 @@ pub fn is_cut(minpaths: &[u64], set: u64) -> bool {
 /// it is enough to put back one cable at a time.
 pub fn verdict(minpaths: &[u64], set: u64) -> Verdict {
     if !is_cut(minpaths, set) {
-        Verdict::NotACut
+        Verdict::NotCut
     } else if members(set).any(|edge| is_cut(minpaths, set & !(1 << edge))) {
         Verdict::NotMinimal
     } else {
@@ -99,7 +99,7 @@ pub fn verdicts(record: &Record) -> Vec<(u64, Verdict)> {
         judged.push((
             set,
             match (cut, smaller_cut) {
-                (false, _) => Verdict::NotACut,
+                (false, _) => Verdict::NotCut,
                 (true, true) => Verdict::NotMinimal,
                 (true, false) => Verdict::Minimal,
             },

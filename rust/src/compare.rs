@@ -4,7 +4,7 @@ use std::fmt::LowerHex;
 
 use crate::answers::{Part, Row, Verdict, Widths};
 use crate::record::Record;
-use crate::reference::{self, LONGEST_PLAN};
+use crate::reference::{self, Refusal, LONGEST_PLAN};
 use crate::sys;
 
 /// Reads the plan; on refusal the record must be all zero. Gives the refusal number.
@@ -79,7 +79,7 @@ pub fn relevant(record: &Record, part: Part) -> u8 {
 /// Judges a set; `verdict` is what it should be if nothing is refused. Gives the refusal number.
 pub fn classify(record: &Record, set: u64, verdict: Verdict) -> u8 {
     let number = match reference::number(&reference::fault(record)) {
-        0 if set & !record.present != 0 => 14,
+        0 if set & !record.present != 0 => Refusal::EdgeNotPresent as u8,
         number => number,
     };
     let verdict = if number == 0 { verdict as u8 } else { 0 };
@@ -99,8 +99,8 @@ pub fn list(
 ) -> u8 {
     let fits = rows.filter(|rows| rows.len() <= cuts_before.len());
     let number = match reference::number(&reference::fault(record)) {
-        0 if cuts_before.len() != sides_before.len() => 11,
-        0 if fits.is_none() => 12,
+        0 if cuts_before.len() != sides_before.len() => Refusal::RowsDiffer as u8,
+        0 if fits.is_none() => Refusal::TooManyCuts as u8,
         number => number,
     };
     let listed = fits.filter(|_| number == 0).unwrap_or_default();

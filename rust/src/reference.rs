@@ -9,22 +9,31 @@ pub const LONGEST_PLAN: usize = 262;
 /// So many bytes decide any plan.
 pub const DECIDING: usize = 265;
 
-/// The refusals of reading, testing and writing, with the paper's numbers.
+/// The refusals, by the library's names and the paper's numbers.
 #[derive(Clone, Copy, Debug, PartialEq, Eq)]
 pub enum Refusal {
-    StopsEarly = 1,
-    UnfitByte = 2,
-    ByteAfterEnd = 3,
-    PointCount = 4,
-    ServerOrRoomTooHigh = 5,
-    ServerIsRoom = 6,
-    CableTooHigh = 7,
-    CableNotRising = 8,
-    EndTooHigh = 9,
-    EndsEqual = 10,
-    AbsentWithEnd = 13,
+    Truncated = 1,
+    UnfitCommand = 2,
+    TrailingByte = 3,
+    BadNodeCount = 4,
+    TerminalOutside = 5,
+    SameTerminals = 6,
+    EdgeNumberTooHigh = 7,
+    EdgeNumberNotRising = 8,
+    EndOutside = 9,
+    SameEnds = 10,
+    RowsDiffer = 11,
+    TooManyCuts = 12,
+    AbsentEdgeNotZero = 13,
+    EdgeNotPresent = 14,
     BufferTooShort = 15,
 }
+
+/// The numbers of the reader's refusals.
+pub const READING: &[u8] = &[1, 2, 3, 4, 5, 6, 7, 8, 9, 10];
+
+/// The numbers of a record's faults.
+pub const FAULTS: &[u8] = &[4, 5, 6, 9, 10, 13];
 
 /// The number beside a result: 0 if it is complete.
 pub fn number<T>(result: &Result<T, Refusal>) -> u8 {
@@ -40,12 +49,12 @@ pub fn decode(plan: &[u8]) -> Result<Record, Refusal> {
 
     cursor.command(0x50)?;
     let [nodes] = cursor.operands()?;
-    refuse_unless((2..=32).contains(&nodes), PointCount)?;
+    refuse_unless((2..=32).contains(&nodes), BadNodeCount)?;
 
     cursor.command(0x53)?;
     let [source, sink] = cursor.operands()?;
-    refuse_unless(source < nodes && sink < nodes, ServerOrRoomTooHigh)?;
-    refuse_unless(source != sink, ServerIsRoom)?;
+    refuse_unless(source < nodes && sink < nodes, TerminalOutside)?;
+    refuse_unless(source != sink, SameTerminals)?;
 
     let mut record = Record::bare(nodes, source, sink);
     let mut lowest_fit = 0;
@@ -53,34 +62,34 @@ pub fn decode(plan: &[u8]) -> Result<Record, Refusal> {
         match cursor.byte()? {
             0x43 => {
                 let [edge, first, second] = cursor.operands()?;
-                refuse_unless(edge <= 63, CableTooHigh)?;
-                refuse_unless(edge >= lowest_fit, CableNotRising)?;
-                refuse_unless(first < nodes && second < nodes, EndTooHigh)?;
-                refuse_unless(first != second, EndsEqual)?;
+                refuse_unless(edge <= 63, EdgeNumberTooHigh)?;
+                refuse_unless(edge >= lowest_fit, EdgeNumberNotRising)?;
+                refuse_unless(first < nodes && second < nodes, EndOutside)?;
+                refuse_unless(first != second, SameEnds)?;
                 record = record.with(edge.into(), first, second);
                 lowest_fit = edge + 1;
             }
             0x45 => break,
-            _ => return Err(UnfitByte),
+            _ => return Err(UnfitCommand),
         }
     }
-    refuse_unless(cursor.rest.is_empty(), ByteAfterEnd)?;
+    refuse_unless(cursor.rest.is_empty(), TrailingByte)?;
     Ok(record)
 }
 
 /// Tests a record.
 pub fn fault(record: &Record) -> Result<(), Refusal> {
     let nodes = record.nodes;
-    refuse_unless((2..=32).contains(&nodes), PointCount)?;
-    refuse_unless(record.source.max(record.sink) < nodes, ServerOrRoomTooHigh)?;
-    refuse_unless(record.source != record.sink, ServerIsRoom)?;
+    refuse_unless((2..=32).contains(&nodes), BadNodeCount)?;
+    refuse_unless(record.source.max(record.sink) < nodes, TerminalOutside)?;
+    refuse_unless(record.source != record.sink, SameTerminals)?;
     for edge in 0..SLOTS {
         let (first, second) = (record.first[edge], record.second[edge]);
         if record.holds(edge) {
-            refuse_unless(first.max(second) < nodes, EndTooHigh)?;
-            refuse_unless(first != second, EndsEqual)?;
+            refuse_unless(first.max(second) < nodes, EndOutside)?;
+            refuse_unless(first != second, SameEnds)?;
         } else {
-            refuse_unless(first == 0 && second == 0, AbsentWithEnd)?;
+            refuse_unless(first == 0 && second == 0, AbsentEdgeNotZero)?;
         }
     }
     Ok(())
@@ -105,7 +114,7 @@ struct Cursor<'a> {
 
 impl Cursor<'_> {
     fn byte(&mut self) -> Result<u8, Refusal> {
-        let (&byte, rest) = self.rest.split_first().ok_or(StopsEarly)?;
+        let (&byte, rest) = self.rest.split_first().ok_or(Truncated)?;
         self.rest = rest;
         Ok(byte)
     }
@@ -113,12 +122,12 @@ impl Cursor<'_> {
     /// The command byte that alone is fit here.
     fn command(&mut self, fit: u8) -> Result<(), Refusal> {
         let byte = self.byte()?;
-        refuse_unless(byte == fit, UnfitByte)
+        refuse_unless(byte == fit, UnfitCommand)
     }
 
     /// All operands of a command.
     fn operands<const N: usize>(&mut self) -> Result<[u8; N], Refusal> {
-        let (operands, rest) = self.rest.split_first_chunk().ok_or(StopsEarly)?;
+        let (operands, rest) = self.rest.split_first_chunk().ok_or(Truncated)?;
         self.rest = rest;
         Ok(*operands)
     }

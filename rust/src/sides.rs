@@ -141,7 +141,7 @@ pub fn verdict(record: &Record, set: u64) -> Verdict {
         reach(&beside, 1 << record.source, u32::MAX) >> record.sink & 1 == 0
     };
     if !is_cut(set) {
-        Verdict::NotACut
+        Verdict::NotCut
     } else if members(set).any(|edge| is_cut(set & !(1 << edge))) {
         Verdict::NotMinimal
     } else {

@@ -321,5 +321,5 @@ fn a_65th_cable_is_7_or_8_and_1_if_cut_short() {
         }
     }
     tally.assert_only(&[1, 7, 8]);
-    tally.assert_each([1, 7, 8], 256);
+    tally.assert_each(&[1, 7, 8], 256);
 }

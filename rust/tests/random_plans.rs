@@ -3,7 +3,7 @@
 
 use cutlist_tests::plans::{self, Damage};
 use cutlist_tests::record::Record;
-use cutlist_tests::reference::{DECIDING, LONGEST_PLAN};
+use cutlist_tests::reference::{DECIDING, LONGEST_PLAN, READING};
 use cutlist_tests::rng::Rng;
 use cutlist_tests::tally::Tally;
 use cutlist_tests::{compare, sys};
@@ -75,7 +75,7 @@ fn bytes_behind_the_plan_are_not_read() {
         let beyond: Vec<u8> = (0..behind).map(|_| plans::any_byte(&mut rng)).collect();
         tally.count(compare::decode_before(&plan, &beyond));
     }
-    tally.assert_each(0..=10, 100);
+    tally.assert_each(&[READING, &[0]].concat(), 100);
 }
 
 #[test]
@@ -104,12 +104,12 @@ fn damaged_plans_are_read_alike() {
             Damage::ValueOutOfRange => (&[0, 4, 5, 6, 7, 8, 9, 10], true),
             Damage::EqualEnds => (&[6, 10], true),
         };
-        tally.assert_each(numbers.iter().copied(), 10);
+        tally.assert_each(numbers, 10);
         if only {
             tally.assert_only(numbers);
         }
     }
-    whole.assert_each(0..=10, 1000);
+    whole.assert_each(&[READING, &[0]].concat(), 1000);
 }
 
 #[test]
@@ -126,7 +126,7 @@ fn plans_with_many_faults_are_read_alike() {
         }
         tally.count(compare::round_trip(&plan));
     }
-    tally.assert_each(0..=10, 500);
+    tally.assert_each(&[READING, &[0]].concat(), 500);
 }
 
 /// A plan of at least 265 bytes is decided by the first 265, and is neither accepted nor cut short.
@@ -158,8 +158,9 @@ fn the_first_265_bytes_decide() {
         assert_eq!(sys::decode(&plan[..DECIDING]), (number, record));
         tally.count(compare::decode(&plan));
     }
-    tally.assert_only(&[2, 3, 4, 5, 6, 7, 8, 9, 10]);
-    tally.assert_each(2..=10, 100);
+    let numbers = [2, 3, 4, 5, 6, 7, 8, 9, 10];
+    tally.assert_only(&numbers);
+    tally.assert_each(&numbers, 100);
 }
 
 /// No accepted plan is longer than 262 bytes: the longest cannot be made longer by bytes anywhere.
@@ -186,5 +187,5 @@ fn nothing_can_be_added_to_the_longest_plan() {
             }
         }
     }
-    tally.assert_each([2, 3, 4, 5, 7, 8, 9], 100);
+    tally.assert_each(&[2, 3, 4, 5, 7, 8, 9], 100);
 }

@@ -4,6 +4,7 @@
 use cutlist_tests::compare;
 use cutlist_tests::plans;
 use cutlist_tests::record::{Record, SLOTS};
+use cutlist_tests::reference::FAULTS;
 use cutlist_tests::rng::Rng;
 use cutlist_tests::sys;
 use cutlist_tests::tally::Tally;
@@ -104,7 +105,7 @@ fn the_lowest_faulty_slot_decides() {
         }
     }
     tally.assert_only(&[9, 10, 13]);
-    tally.assert_each([9, 10, 13], 3 * 2016);
+    tally.assert_each(&[9, 10, 13], 3 * 2016);
 }
 
 #[test]
@@ -189,10 +190,10 @@ fn random_records_are_tested_and_written_alike() {
         assert!(refusal == fault || (fault, refusal) == (0, 15));
         written.count(refusal);
     }
-    let faults = [0, 4, 5, 6, 9, 10, 13];
-    tested.assert_only(&faults);
-    tested.assert_each(faults, 1000);
-    written.assert_each(faults.into_iter().chain([15]), 1000);
+    let numbers = [FAULTS, &[0]].concat();
+    tested.assert_only(&numbers);
+    tested.assert_each(&numbers, 1000);
+    written.assert_each(&[FAULTS, &[0, 15]].concat(), 1000);
 }
 
 /// Records of random bytes throughout.
@@ -217,5 +218,5 @@ fn wild_records_are_tested_alike() {
         }
         tally.count(compare::fault(&record));
     }
-    tally.assert_each([4, 5, 6, 9, 10, 13], 1000);
+    tally.assert_each(FAULTS, 1000);
 }

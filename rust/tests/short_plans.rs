@@ -107,7 +107,7 @@ fn assert_up_to_2_more(prefix: &[u8], numbers: &[u8]) {
     }
     assert_eq!(tally.total(), 1 + 256 + 65536);
     tally.assert_only(numbers);
-    tally.assert_each(numbers.iter().copied(), 1);
+    tally.assert_each(numbers, 1);
 }
 
 /// The operands of 43 and 53 in all combinations, sparse only far above the limits.
@@ -128,7 +128,7 @@ fn all_operands_of_a_command() {
         }
     }
     tally.assert_only(&[0, 7, 8, 9, 10]);
-    tally.assert_each([0, 7, 8, 9, 10], 1000);
+    tally.assert_each(&[0, 7, 8, 9, 10], 1000);
 
     let mut tally = Tally::default();
     for nodes in every_byte() {
@@ -156,12 +156,12 @@ fn all_continuations_over_few_bytes() {
     for length in 0..=6 {
         continuations(&second_edge, length, &alphabet, &mut tally);
     }
-    tally.assert_each([0, 1, 2, 3, 7, 8, 9, 10], 10);
+    tally.assert_each(&[0, 1, 2, 3, 7, 8, 9, 10], 10);
 
     let alphabet = [0x00, 0x01, 0x02, 0x20, 0x21, 0x45, 0x50, 0x53];
     let mut tally = Tally::default();
     for length in 0..=6 {
         continuations(&[], length, &alphabet, &mut tally);
     }
-    tally.assert_each([0, 1, 2, 4, 5, 6], 4);
+    tally.assert_each(&[0, 1, 2, 4, 5, 6], 4);
 }

@@ -18,6 +18,7 @@ use cutlist_tests::record::Record;
 use cutlist_tests::reference;
 use cutlist_tests::rng::Rng;
 use cutlist_tests::sys::capi;
+use cutlist_tests::tally::Tally;
 
 /// Stacks are painted with this.
 const PAINT: u64 = 0xA5C3_96E1_5A3C_691E;
@@ -206,7 +207,7 @@ fn no_call_takes_more_than_the_header_says() {
     let mut rows = Rows::new();
     let mut rng = Rng::new(71);
     let mut deepest = 0;
-    let mut refusals = [0; 16];
+    let mut refusals = Tally::default();
     let random = (0..400).map(|round| {
         let mut record = plans::large(&mut rng);
         if round % 8 == 0 {
@@ -218,12 +219,13 @@ fn no_call_takes_more_than_the_header_says() {
         for lent in [0, 20, 2048, ROWS] {
             let (stack, refusal) = list(&hall, &mut rows, lent);
             deepest = deepest.max(stack);
-            refusals[usize::from(refusal)] += 1;
+            refusals.count(refusal);
         }
         let stack = others(&hall);
         assert!(stack < 1024, "{stack} bytes: {hall:?}");
     }
-    assert!(refusals[0] > 500 && refusals[12] > 300, "{refusals:?}");
+    refusals.assert_each(&[0], 500);
+    refusals.assert_each(&[12], 300);
     assert!(deepest <= most, "{deepest} bytes");
     // The line of 32 points goes as deep as any.
     assert_eq!(list(&halls::line(32, 1), &mut rows, ROWS), (deepest, 0));

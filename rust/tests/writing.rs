@@ -21,7 +21,7 @@ fn every_buffer_length() {
         }
     }
     tally.assert_only(&[0, 15]);
-    tally.assert_each([0, 15], 10_000);
+    tally.assert_each(&[0, 15], 10_000);
 }
 
 /// Around the exact length, with any bytes in the buffer: one short, exact, one more, many more.

@@ -1,7 +1,7 @@
 // The record test, and the rules that it shares with the reader.
 use crate::Network;
-use crate::refusal::ABSENT_EDGE_WITH_END;
-use crate::refusal::BAD_SIZE;
+use crate::refusal::ABSENT_EDGE_NOT_ZERO;
+use crate::refusal::BAD_NODE_COUNT;
 use crate::refusal::END_OUTSIDE;
 use crate::refusal::SAME_ENDS;
 use crate::refusal::SAME_TERMINALS;
@@ -15,10 +15,10 @@ pub fn size_fault(nodes: u8) -> u8
     ensures { λ r. ⌜ r ≡ sizeFault nodes ⌝ }
 {
     if nodes < 2 {
-        return BAD_SIZE;
+        return BAD_NODE_COUNT;
     }
     if 32 < nodes {
-        return BAD_SIZE;
+        return BAD_NODE_COUNT;
     }
     0
 }
@@ -56,10 +56,10 @@ fn absent_fault(first: u8, second: u8) -> u8
     ensures { λ r. ⌜ r ≡ absentFault first second ⌝ }
 {
     if 0 < first {
-        return ABSENT_EDGE_WITH_END;
+        return ABSENT_EDGE_NOT_ZERO;
     }
     if 0 < second {
-        return ABSENT_EDGE_WITH_END;
+        return ABSENT_EDGE_NOT_ZERO;
     }
     0
 }

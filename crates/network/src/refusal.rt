@@ -1,4 +1,5 @@
-// The refusals, by the paper's numbers.
+// The refusals, by the paper's numbers, which may have gaps. Each has one name everywhere: in the header for C with CUTLIST_ in front,
+// in Rust in camel case, `Truncated`.
 
 // By what carried the bytes.
 pub const TRUNCATED: u8 = 1; // the plan stops early
@@ -8,7 +9,7 @@ pub const UNFIT_COMMAND: u8 = 2; // a byte that is no command fit for its place
 pub const TRAILING_BYTE: u8 = 3; // a byte after 45
 
 // By the one who surveyed the hall.
-pub const BAD_SIZE: u8 = 4; // point count not 2 to 32
+pub const BAD_NODE_COUNT: u8 = 4; // point count not 2 to 32
 
 pub const TERMINAL_OUTSIDE: u8 = 5; // server or room not below the point count
 
@@ -27,7 +28,7 @@ pub const ROWS_DIFFER: u8 = 11; // cut rows and side rows differ in number
 
 pub const TOO_MANY_CUTS: u8 = 12; // more minimal cuts than rows lent
 
-pub const ABSENT_EDGE_WITH_END: u8 = 13; // an absent cable with an end not 0
+pub const ABSENT_EDGE_NOT_ZERO: u8 = 13; // an absent cable with an end not 0
 
 pub const EDGE_NOT_PRESENT: u8 = 14; // a judged set holds a cable not present
 

@@ -2,7 +2,8 @@
 
 use std::fmt;
 
-use crate::answers::Verdict::{Minimal, NotACut, NotMinimal};
+use crate::answers::Verdict::{Minimal, NotCut, NotMinimal};
+use crate::reference::{FAULTS, READING};
 use crate::tally::{Tally, Verdicts};
 
 /// Questions by function and answer.
@@ -35,21 +36,18 @@ impl Counts {
 
     /// Every refusal of every function occurred, every verdict, and short and long lists.
     pub fn assert_wide(&self) {
-        let faults = [0, 4, 5, 6, 9, 10, 13];
-        for (tally, more) in [
-            (&self.fault, &[][..]),
-            (&self.relevant, &[]),
-            (&self.encode, &[15]),
-            (&self.classify, &[14]),
-            (&self.list, &[11, 12]),
+        for (tally, of_the_plan, more) in [
+            (&self.decode, READING, &[][..]),
+            (&self.fault, FAULTS, &[]),
+            (&self.relevant, FAULTS, &[]),
+            (&self.encode, FAULTS, &[15]),
+            (&self.classify, FAULTS, &[14]),
+            (&self.list, FAULTS, &[11, 12]),
         ] {
-            let numbers = [&faults, more].concat();
+            let numbers = [&[0], of_the_plan, more].concat();
             tally.assert_only(&numbers);
-            tally.assert_each(numbers, 50);
+            tally.assert_each(&numbers, 50);
         }
-        let reading: Vec<u8> = (0..=10).collect();
-        self.decode.assert_only(&reading);
-        self.decode.assert_each(reading, 50);
         self.verdicts.assert_each(500);
         assert!(self.widths >= self.cases, "{self}");
         assert!(self.short_lists >= 500, "{self}");
@@ -75,11 +73,11 @@ impl fmt::Display for Counts {
             all += tally.clone();
         }
         write!(f, " widths {}; refusals:", self.widths)?;
-        for number in 1..=15 {
-            write!(f, " {number} ({}),", all.of(number))?;
+        for (number, count) in all.iter().filter(|&(number, _)| number != 0) {
+            write!(f, " {number} ({count}),")?;
         }
         let [not, more, minimal] =
-            [NotACut, NotMinimal, Minimal].map(|verdict| self.verdicts.of(verdict));
+            [NotCut, NotMinimal, Minimal].map(|verdict| self.verdicts.of(verdict));
         write!(
             f,
             " none ({}); judged: {not} no cut, {more} not minimal, {minimal} minimal; halls listed: \

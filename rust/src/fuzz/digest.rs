@@ -7,7 +7,7 @@ use crate::fuzz::case::{self, Case};
 use crate::fuzz::questions::{ample, lent_rows, needed_bytes, sets, LONGEST_LIST};
 use crate::lent;
 use crate::record::Record;
-use crate::reference::LONGEST_PLAN;
+use crate::reference::{Refusal, LONGEST_PLAN};
 use crate::rng::Rng;
 use crate::sys;
 
@@ -100,5 +100,5 @@ fn list(
     digest.numbers(&cuts);
     digest.numbers(&sides);
     cuts.truncate(count);
-    (refusal != 12).then_some(cuts)
+    (refusal != Refusal::TooManyCuts as u8).then_some(cuts)
 }

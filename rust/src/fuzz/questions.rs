@@ -51,7 +51,7 @@ fn on_the_record(case: &Case, counts: &mut Counts) {
         // A cable not present is refused before the verdict.
         let verdict = match fault == 0 && set & !record.present == 0 {
             true => known.verdict(record, set),
-            false => Verdict::NotACut,
+            false => Verdict::NotCut,
         };
         let number = compare::classify(record, set, verdict);
         counts.classify.count(number);
