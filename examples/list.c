@@ -28,7 +28,7 @@ static const uint8_t bridge[] = {
  * Reads what decides the plan of a file, which may be longer, and gives its length. Gives -1, and says
  * why, if the file cannot be read.
  */
-static int read_plan(const char *name, uint8_t plan[CUTLIST_DECIDING_BYTES])
+static int read_plan(const char *name, uint8_t bytes[CUTLIST_DECIDING_BYTES])
 {
     FILE *file = fopen(name, "rb");
     size_t length;
@@ -38,7 +38,7 @@ static int read_plan(const char *name, uint8_t plan[CUTLIST_DECIDING_BYTES])
         perror(name);
         return -1;
     }
-    length = fread(plan, 1, CUTLIST_DECIDING_BYTES, file);
+    length = fread(bytes, 1, CUTLIST_DECIDING_BYTES, file);
     failed = ferror(file);
     if (failed)
         perror(name);
@@ -63,22 +63,19 @@ static void print_set(uint64_t set)
 }
 
 /* Reads a plan, lists it and prints the rows. Gives the refusal's number. */
-static uint8_t list(const uint8_t *plan, size_t length)
+static uint8_t list(const uint8_t *bytes, size_t length)
 {
     static uint64_t cuts[ROWS];
     static uint32_t sides[ROWS];
-    uint8_t nodes, source, sink;
-    uint64_t present;
-    uint8_t first[CUTLIST_SLOTS], second[CUTLIST_SLOTS];
+    struct cutlist_plan plan;
     size_t count, row;
     uint8_t refusal;
 
-    refusal = cutlist_decode(plan, length, &nodes, &source, &sink, &present, first, second);
+    refusal = cutlist_plan_decode(bytes, length, &plan);
     if (refusal != CUTLIST_ACCEPTED)
         return refusal;
 
-    refusal = cutlist_list(nodes, source, sink, present, first, second,
-                           cuts, ROWS, sides, ROWS, &count);
+    refusal = cutlist_plan_list(&plan, cuts, ROWS, sides, ROWS, &count);
     if (refusal != CUTLIST_ACCEPTED)
         return refusal;
 
@@ -101,11 +98,11 @@ int main(int argc, char **argv)
         return UNREADABLE;
     }
     if (argc == 2) {
-        uint8_t plan[CUTLIST_DECIDING_BYTES];
-        int length = read_plan(argv[1], plan);
+        uint8_t bytes[CUTLIST_DECIDING_BYTES];
+        int length = read_plan(argv[1], bytes);
         if (length < 0)
             return UNREADABLE;
-        refusal = list(plan, (size_t)length);
+        refusal = list(bytes, (size_t)length);
     } else {
         refusal = list(bridge, sizeof bridge);
     }

@@ -11,6 +11,10 @@
  *   first    the first end of each cable, 0 if the cable is absent
  *   second   the second end of each cable, 0 if the cable is absent
  *
+ * struct cutlist_plan holds the fields together, and for each function that takes them one by one
+ * there is an inline function that takes the struct: cutlist_plan_fault for cutlist_fault. A call of
+ * those stays as it is when plans gain a field.
+ *
  * A set is a number in which member k weighs 2^k: 64 bits for cables, 32 bits for points.
  *
  * Every function but cutlist_widths gives the number of a refusal, CUTLIST_ACCEPTED if there is
@@ -199,6 +203,88 @@ uint8_t cutlist_list(
 void cutlist_widths(
     const uint64_t *cuts, size_t cuts_length,
     uint64_t table[CUTLIST_WIDTHS]);
+
+/*
+ * A record as one value. Fill one in from zeros throughout, struct cutlist_plan plan = {0}, so that a
+ * field that plans gain later holds 0 too.
+ */
+struct cutlist_plan {
+    uint8_t nodes;
+    uint8_t source;
+    uint8_t sink;
+    uint64_t present;
+    uint8_t first[CUTLIST_SLOTS];
+    uint8_t second[CUTLIST_SLOTS];
+};
+
+/* The fields of a struct, as the functions above take them. */
+#define CUTLIST_FIELDS(plan) \
+    (plan)->nodes, \
+    (plan)->source, \
+    (plan)->sink, \
+    (plan)->present, \
+    (plan)->first, \
+    (plan)->second
+
+/* Reads a plan, as cutlist_decode does. On refusal every field is zero. */
+static inline uint8_t cutlist_plan_decode(
+    const uint8_t *bytes, size_t length,
+    struct cutlist_plan *plan)
+{
+    return cutlist_decode(
+        bytes, length,
+        &plan->nodes,
+        &plan->source,
+        &plan->sink,
+        &plan->present,
+        plan->first,
+        plan->second);
+}
+
+/* Tests a plan, as cutlist_fault does. */
+static inline uint8_t cutlist_plan_fault(const struct cutlist_plan *plan)
+{
+    return cutlist_fault(CUTLIST_FIELDS(plan));
+}
+
+/* Writes a plan into a lent buffer, as cutlist_encode does. */
+static inline uint8_t cutlist_plan_encode(
+    const struct cutlist_plan *plan,
+    uint8_t *bytes, size_t length,
+    size_t *count)
+{
+    return cutlist_encode(CUTLIST_FIELDS(plan), bytes, length, count);
+}
+
+/* Finds the useful part, as cutlist_relevant does. */
+static inline uint8_t cutlist_plan_relevant(
+    const struct cutlist_plan *plan,
+    uint32_t *node_set,
+    uint64_t *edge_set)
+{
+    return cutlist_relevant(CUTLIST_FIELDS(plan), node_set, edge_set);
+}
+
+/* Judges a set of cables, as cutlist_classify does. */
+static inline uint8_t cutlist_plan_classify(
+    const struct cutlist_plan *plan,
+    uint64_t set,
+    uint8_t *verdict)
+{
+    return cutlist_classify(CUTLIST_FIELDS(plan), set, verdict);
+}
+
+/* Lists the minimal cuts, as cutlist_list does. */
+static inline uint8_t cutlist_plan_list(
+    const struct cutlist_plan *plan,
+    uint64_t *cuts, size_t cuts_length,
+    uint32_t *sides, size_t sides_length,
+    size_t *count)
+{
+    return cutlist_list(CUTLIST_FIELDS(plan), cuts, cuts_length, sides, sides_length, count);
+}
+
+#undef CUTLIST_FIELDS
 
 #ifdef __cplusplus
 }

@@ -1,5 +1,6 @@
 //! The header and its example: the example is compiled with the C compiler, linked with the static
-//! library, and run; and what the header says of the library as a whole.
+//! library, and run; the header's own functions are, in C and in C++; and what the header says of the
+//! library as a whole.
 
 use std::env;
 use std::fs;
@@ -32,26 +33,35 @@ fn folder() -> PathBuf {
     folder
 }
 
-/// Compiles the example, once for all tests.
+/// Compiles a source in this language, `c` or `c++`, and its standard, without a complaint.
+fn compiled(source: &str, language: &str, standard: &str) -> PathBuf {
+    let program = folder().join(format!("{}-{standard}", source.replace('/', "-")));
+    let compiler = match language {
+        "c" => "cc",
+        _ => "c++",
+    };
+    let output = Command::new(compiler)
+        .args(["-pedantic", "-Wall", "-Wextra", "-Werror"])
+        .args([&format!("-std={standard}"), "-x", language])
+        .arg("-I")
+        .arg(root().join("include"))
+        .arg(root().join(source))
+        .args(["-x", "none"])
+        .arg(archive())
+        .arg("-o")
+        .arg(&program)
+        .output()
+        .unwrap_or_else(|e| panic!("the compiler `{compiler}`: {e}"));
+    let complaints = String::from_utf8_lossy(&output.stderr);
+    assert!(output.status.success(), "{complaints}");
+    assert!(complaints.is_empty(), "{complaints}");
+    program
+}
+
+/// The example, compiled once for all tests.
 fn example() -> &'static Path {
     static EXAMPLE: OnceLock<PathBuf> = OnceLock::new();
-    EXAMPLE.get_or_init(|| {
-        let program = folder().join("list");
-        let output = Command::new("cc")
-            .args(["-std=c99", "-pedantic", "-Wall", "-Wextra", "-Werror"])
-            .arg("-I")
-            .arg(root().join("include"))
-            .arg(root().join("examples/list.c"))
-            .arg(archive())
-            .arg("-o")
-            .arg(&program)
-            .output()
-            .expect("the C compiler `cc`");
-        let complaints = String::from_utf8_lossy(&output.stderr);
-        assert!(output.status.success(), "{complaints}");
-        assert!(complaints.is_empty(), "{complaints}");
-        program
-    })
+    EXAMPLE.get_or_init(|| compiled("examples/list.c", "c", "c99"))
 }
 
 fn run(arguments: &[&Path]) -> Output {
@@ -108,18 +118,38 @@ fn the_library_has_no_memory_of_its_own_and_calls_only_to_copy_and_fill() {
     assert!(functions >= 7, "{text}");
 }
 
+/// Each function that takes or gives a record has a companion that does so with a struct.
 #[test]
 fn the_header_declares_every_function_of_the_library() {
     let source = fs::read_to_string(root().join("crates/capi/src/lib.rt")).expect("the source");
     let header = fs::read_to_string(root().join("include/cutlist.h")).expect("the header");
-    let names: Vec<&str> = source
-        .lines()
-        .filter_map(|line| line.strip_prefix("pub extern \"C\" fn "))
-        .map(|rest| rest.split('(').next().expect("a name"))
-        .collect();
-    assert!(names.len() >= 7, "{names:?}");
-    for name in names {
-        assert!(header.contains(&format!(" {name}(\n")), "{name} is missing");
+    let (mut functions, mut on_records) = (0, 0);
+    for exported in source.split("\npub extern \"C\" fn cutlist_").skip(1) {
+        let (name, rest) = exported.split_once('(').expect("a name");
+        let declared = format!(" cutlist_{name}(\n");
+        assert!(header.contains(&declared), "{name} is missing");
+        functions += 1;
+        let (parameters, _) = rest.split_once(')').expect("parameters");
+        if parameters.contains("present: ") {
+            let inline = format!("static inline uint8_t cutlist_plan_{name}(");
+            assert!(header.contains(&inline), "{name} lacks its companion");
+            on_records += 1;
+        }
+    }
+    assert!(functions >= 7 && on_records >= 6);
+}
+
+#[test]
+fn plans_as_structs_in_c_and_in_cpp() {
+    for (language, standard) in [
+        ("c", "c99"),
+        ("c", "c11"),
+        ("c++", "c++98"),
+        ("c++", "c++17"),
+    ] {
+        let program = compiled("rust/tests/header.c", language, standard);
+        let output = Command::new(program).output().expect("the program runs");
+        assert!(output.status.success(), "{standard}: {output:?}");
     }
 }
 

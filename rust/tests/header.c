@@ -1,0 +1,73 @@
+/*
+ * The bridge by the functions over struct cutlist_plan: in C and in C++, without a complaint of the
+ * compiler. It ends with 0 if every answer is the paper's.
+ */
+#include <stdio.h>
+#include <string.h>
+
+#include "cutlist.h"
+#include "cutlist.h"
+
+#define CHECK(claim) \
+    do { \
+        if (!(claim)) { \
+            fprintf(stderr, "line %d: %s\n", __LINE__, #claim); \
+            return 1; \
+        } \
+    } while (0)
+
+static const uint8_t bridge[26] = {
+    0x50, 4, 0x53, 0, 3, 0x43, 0, 0, 1, 0x43, 1, 0, 2, 0x43, 2, 1, 2, 0x43, 3, 1, 3, 0x43, 4, 2, 3, 0x45,
+};
+
+int main(void)
+{
+    static const uint64_t cuts_listed[5] = {3, 14, 21, 24, 7};
+    static const uint32_t sides_listed[5] = {1, 3, 5, 7, 9};
+    struct cutlist_plan plan, zero;
+    uint8_t bytes[27], verdict;
+    uint64_t cuts[5] = {7, 7, 7, 7, 7}, edges;
+    uint32_t sides[5] = {9, 9, 9, 9, 9}, nodes;
+    size_t count;
+
+    /* Reading, which leaves nothing of what the struct held. */
+    memset(&zero, 0, sizeof zero);
+    memset(&plan, 0xEE, sizeof plan);
+    CHECK(cutlist_plan_decode(bridge, 25, &plan) == CUTLIST_TRUNCATED);
+    CHECK(plan.nodes == 0 && plan.source == 0 && plan.sink == 0 && plan.present == 0);
+    CHECK(memcmp(plan.first, zero.first, CUTLIST_SLOTS) == 0);
+    CHECK(memcmp(plan.second, zero.second, CUTLIST_SLOTS) == 0);
+    CHECK(cutlist_plan_fault(&plan) == CUTLIST_BAD_NODE_COUNT);
+    CHECK(cutlist_plan_decode(bridge, 26, &plan) == CUTLIST_ACCEPTED);
+    CHECK(plan.nodes == 4 && plan.source == 0 && plan.sink == 3 && plan.present == 31);
+    CHECK(plan.first[3] == 1 && plan.second[3] == 3);
+
+    /* Writing. */
+    memset(bytes, 0xAA, sizeof bytes);
+    CHECK(cutlist_plan_encode(&plan, bytes, 25, &count) == CUTLIST_BUFFER_TOO_SHORT && count == 0);
+    CHECK(cutlist_plan_encode(&plan, bytes, 27, &count) == CUTLIST_ACCEPTED && count == 26);
+    CHECK(memcmp(bytes, bridge, 26) == 0 && bytes[26] == 0xAA);
+
+    /* The useful part, a verdict, the list. */
+    CHECK(cutlist_plan_relevant(&plan, &nodes, &edges) == CUTLIST_ACCEPTED);
+    CHECK(nodes == 15 && edges == 31);
+    CHECK(cutlist_plan_classify(&plan, 14, &verdict) == CUTLIST_ACCEPTED);
+    CHECK(verdict == CUTLIST_MINIMAL);
+    CHECK(cutlist_plan_classify(&plan, 32, &verdict) == CUTLIST_EDGE_NOT_PRESENT);
+    CHECK(verdict == CUTLIST_NO_VERDICT);
+    CHECK(cutlist_plan_list(&plan, cuts, 5, sides, 4, &count) == CUTLIST_ROWS_DIFFER && count == 0);
+    CHECK(cutlist_plan_list(&plan, cuts, 5, sides, 5, &count) == CUTLIST_ACCEPTED && count == 4);
+    CHECK(memcmp(cuts, cuts_listed, sizeof cuts) == 0);
+    CHECK(memcmp(sides, sides_listed, sizeof sides) == 0);
+
+    /* A struct that is filled in. */
+    plan = zero;
+    plan.nodes = 2;
+    plan.sink = 1;
+    CHECK(cutlist_plan_fault(&plan) == CUTLIST_ACCEPTED);
+    plan.second[63] = 1;
+    CHECK(cutlist_plan_fault(&plan) == CUTLIST_ABSENT_EDGE_NOT_ZERO);
+    plan.present = (uint64_t)1 << 63;
+    CHECK(cutlist_plan_fault(&plan) == CUTLIST_ACCEPTED);
+    return 0;
+}
