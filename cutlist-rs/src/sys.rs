@@ -47,64 +47,62 @@ unsafe extern "C" {
         second: *mut [u8; SLOTS],
     ) -> u8;
 
-    fn cutlist_fault(
-        nodes: u8,
-        source: u8,
-        sink: u8,
-        present: u64,
-        first: *const [u8; SLOTS],
-        second: *const [u8; SLOTS],
-    ) -> u8;
+    fn cutlist_widths(cuts: *const u64, cuts_length: usize, table: *mut [u64; WIDTHS]);
+}
 
-    fn cutlist_encode(
-        nodes: u8,
-        source: u8,
-        sink: u8,
-        present: u64,
-        first: *const [u8; SLOTS],
-        second: *const [u8; SLOTS],
-        plan: *mut u8,
-        plan_length: usize,
-        count: *mut usize,
-    ) -> u8;
+/// Declares the calls on a record, which begin with its fields, and makes of each one that begins
+/// with the record.
+macro_rules! on_a_record {
+    ($(fn $name:ident($($more:ident: $type:ty),*);)*) => {
+        mod on_fields {
+            use super::SLOTS;
 
-    fn cutlist_relevant(
-        nodes: u8,
-        source: u8,
-        sink: u8,
-        present: u64,
-        first: *const [u8; SLOTS],
-        second: *const [u8; SLOTS],
-        node_set: *mut u32,
-        edge_set: *mut u64,
-    ) -> u8;
+            unsafe extern "C" {
+                $(
+                    pub fn $name(
+                        nodes: u8,
+                        source: u8,
+                        sink: u8,
+                        present: u64,
+                        first: *const [u8; SLOTS],
+                        second: *const [u8; SLOTS],
+                        $($more: $type,)*
+                    ) -> u8;
+                )*
+            }
+        }
 
-    fn cutlist_classify(
-        nodes: u8,
-        source: u8,
-        sink: u8,
-        present: u64,
-        first: *const [u8; SLOTS],
-        second: *const [u8; SLOTS],
-        set: u64,
-        verdict: *mut u8,
-    ) -> u8;
+        $(
+            unsafe fn $name(r: &Record, $($more: $type),*) -> u8 {
+                // SAFETY: the record's pointers are valid; of the others the caller says so.
+                unsafe {
+                    on_fields::$name(
+                        r.nodes,
+                        r.source,
+                        r.sink,
+                        r.present,
+                        &r.first,
+                        &r.second,
+                        $($more,)*
+                    )
+                }
+            }
+        )*
+    };
+}
 
+on_a_record! {
+    fn cutlist_fault();
+    fn cutlist_encode(plan: *mut u8, plan_length: usize, count: *mut usize);
+    fn cutlist_relevant(node_set: *mut u32, edge_set: *mut u64);
+    fn cutlist_classify(set: u64, verdict: *mut u8);
     fn cutlist_list(
-        nodes: u8,
-        source: u8,
-        sink: u8,
-        present: u64,
-        first: *const [u8; SLOTS],
-        second: *const [u8; SLOTS],
         cuts: *mut u64,
         cuts_length: usize,
         sides: *mut u32,
         sides_length: usize,
-        count: *mut usize,
-    ) -> u8;
-
-    fn cutlist_widths(cuts: *const u64, cuts_length: usize, table: *mut [u64; WIDTHS]);
+        count: *mut usize
+    );
 }
 
 /// Reads a plan.
@@ -128,27 +126,15 @@ pub fn decode(plan: &[u8]) -> (u8, Record) {
 
 /// Tests a record.
 pub fn fault(r: &Record) -> u8 {
-    // SAFETY: each pointer is valid for its type.
-    unsafe { cutlist_fault(r.nodes, r.source, r.sink, r.present, &r.first, &r.second) }
+    // SAFETY: no pointer is given beside the record.
+    unsafe { cutlist_fault(r) }
 }
 
 /// Writes a record into `plan`: the count.
 pub fn encode(r: &Record, plan: &mut [u8]) -> (u8, usize) {
     let mut count = 0;
     // SAFETY: each pointer is valid for its type and length, and no two overlap.
-    let refusal = unsafe {
-        cutlist_encode(
-            r.nodes,
-            r.source,
-            r.sink,
-            r.present,
-            &r.first,
-            &r.second,
-            plan.as_mut_ptr(),
-            plan.len(),
-            &mut count,
-        )
-    };
+    let refusal = unsafe { cutlist_encode(r, plan.as_mut_ptr(), plan.len(), &mut count) };
     (refusal, count)
 }
 
@@ -156,30 +142,15 @@ pub fn encode(r: &Record, plan: &mut [u8]) -> (u8, usize) {
 pub fn relevant(r: &Record) -> (u8, (u32, u64)) {
     let (mut nodes, mut edges) = (0, 0);
     // SAFETY: each pointer is valid for its type, and no two overlap.
-    let refusal = unsafe {
-        cutlist_relevant(
-            r.nodes, r.source, r.sink, r.present, &r.first, &r.second, &mut nodes, &mut edges,
-        )
-    };
+    let refusal = unsafe { cutlist_relevant(r, &mut nodes, &mut edges) };
     (refusal, (nodes, edges))
 }
 
 /// Judges a set of cables: the verdict's number.
 pub fn classify(r: &Record, set: u64) -> (u8, u8) {
     let mut verdict = 0;
-    // SAFETY: each pointer is valid for its type, and no two overlap.
-    let refusal = unsafe {
-        cutlist_classify(
-            r.nodes,
-            r.source,
-            r.sink,
-            r.present,
-            &r.first,
-            &r.second,
-            set,
-            &mut verdict,
-        )
-    };
+    // SAFETY: the pointer is valid for its type.
+    let refusal = unsafe { cutlist_classify(r, set, &mut verdict) };
     (refusal, verdict)
 }
 
@@ -190,12 +161,7 @@ pub fn list(r: &Record, cuts: &mut [EdgeSet], sides: &mut [NodeSet]) -> (u8, usi
     // as its number, being transparent.
     let refusal = unsafe {
         cutlist_list(
-            r.nodes,
-            r.source,
-            r.sink,
-            r.present,
-            &r.first,
-            &r.second,
+            r,
             cuts.as_mut_ptr().cast(),
             cuts.len(),
             sides.as_mut_ptr().cast(),

@@ -26,7 +26,7 @@ pub struct Guarded<T> {
     after: [u8; GUARD],
 }
 
-impl<T: Copy> Guarded<T> {
+impl<T: Clone> Guarded<T> {
     pub fn new(value: T) -> Guarded<T> {
         Guarded {
             before: FENCE,
@@ -48,7 +48,7 @@ impl<T: Copy> Guarded<T> {
             cell.before == FENCE && cell.after == FENCE,
             "a call wrote beside a lent value"
         );
-        cell.value
+        cell.value.clone()
     }
 }
 

@@ -5,8 +5,10 @@ use std::fmt;
 /// Slots for edges (cables).
 pub const SLOTS: usize = 64;
 
-/// A plan record as plain fields; anything may stand in them.
+/// A plan record as plain fields; anything may stand in them. They lie in this order, so that no
+/// unused bytes lie beside the ends, which are lent to calls where they stand.
 #[derive(Clone, PartialEq, Eq)]
+#[repr(C)]
 pub struct Record {
     /// The point count.
     pub nodes: u8,

@@ -7,7 +7,7 @@ use crate::record::{Record, SLOTS};
 
 /// The functions as include/cutlist.h declares them, with nothing around.
 pub mod capi {
-    use super::SLOTS;
+    use super::{Record, SLOTS};
 
     unsafe extern "C" {
         pub fn cutlist_decode(
@@ -21,90 +21,75 @@ pub mod capi {
             second: *mut [u8; SLOTS],
         ) -> u8;
 
-        pub fn cutlist_fault(
-            nodes: u8,
-            source: u8,
-            sink: u8,
-            present: u64,
-            first: *const [u8; SLOTS],
-            second: *const [u8; SLOTS],
-        ) -> u8;
+        pub fn cutlist_widths(cuts: *const u64, length: usize, table: *mut [u64; 65]);
+    }
 
-        pub fn cutlist_encode(
-            nodes: u8,
-            source: u8,
-            sink: u8,
-            present: u64,
-            first: *const [u8; SLOTS],
-            second: *const [u8; SLOTS],
-            plan: *mut u8,
-            length: usize,
-            count: *mut usize,
-        ) -> u8;
+    /// Declares the calls on a record, which begin with its fields, and makes of each one that
+    /// begins with the record's place.
+    macro_rules! on_a_record {
+        ($(fn $name:ident($($more:ident: $type:ty),*);)*) => {
+            mod on_fields {
+                use super::SLOTS;
 
-        pub fn cutlist_relevant(
-            nodes: u8,
-            source: u8,
-            sink: u8,
-            present: u64,
-            first: *const [u8; SLOTS],
-            second: *const [u8; SLOTS],
-            node_set: *mut u32,
-            edge_set: *mut u64,
-        ) -> u8;
+                unsafe extern "C" {
+                    $(
+                        pub fn $name(
+                            nodes: u8,
+                            source: u8,
+                            sink: u8,
+                            present: u64,
+                            first: *const [u8; SLOTS],
+                            second: *const [u8; SLOTS],
+                            $($more: $type,)*
+                        ) -> u8;
+                    )*
+                }
+            }
 
-        pub fn cutlist_classify(
-            nodes: u8,
-            source: u8,
-            sink: u8,
-            present: u64,
-            first: *const [u8; SLOTS],
-            second: *const [u8; SLOTS],
-            set: u64,
-            verdict: *mut u8,
-        ) -> u8;
+            $(
+                /// # Safety
+                ///
+                /// Each pointer is valid for its type and length, and no two overlap.
+                #[inline]
+                pub unsafe fn $name(r: *const Record, $($more: $type),*) -> u8 {
+                    on_fields::$name(
+                        (*r).nodes,
+                        (*r).source,
+                        (*r).sink,
+                        (*r).present,
+                        &raw const (*r).first,
+                        &raw const (*r).second,
+                        $($more,)*
+                    )
+                }
+            )*
+        };
+    }
 
-        pub fn cutlist_list(
-            nodes: u8,
-            source: u8,
-            sink: u8,
-            present: u64,
-            first: *const [u8; SLOTS],
-            second: *const [u8; SLOTS],
+    on_a_record! {
+        fn cutlist_fault();
+        fn cutlist_encode(plan: *mut u8, length: usize, count: *mut usize);
+        fn cutlist_relevant(node_set: *mut u32, edge_set: *mut u64);
+        fn cutlist_classify(set: u64, verdict: *mut u8);
+        fn cutlist_list(
             cuts: *mut u64,
             cut_rows: usize,
             sides: *mut u32,
             side_rows: usize,
-            count: *mut usize,
-        ) -> u8;
-
-        pub fn cutlist_widths(cuts: *const u64, length: usize, table: *mut [u64; 65]);
+            count: *mut usize
+        );
     }
 }
 
 /// What out parameters hold before a call, so that one left unwritten shows.
 const STALE: u8 = 0xEE;
 
-/// The ends of a record's cables, lent for reading.
-struct Ends {
-    first: Guarded<[u8; SLOTS]>,
-    second: Guarded<[u8; SLOTS]>,
-}
-
-impl Ends {
-    fn of(record: &Record) -> Ends {
-        Ends {
-            first: Guarded::new(record.first),
-            second: Guarded::new(record.second),
-        }
-    }
-
-    fn assert_unchanged(&mut self, record: &Record) {
-        assert!(
-            self.first.take() == record.first && self.second.take() == record.second,
-            "a call wrote into the record"
-        );
-    }
+/// Makes a call on a copy of the record, lent for reading.
+fn on_a_copy(record: &Record, call: impl FnOnce(*const Record) -> u8) -> u8 {
+    let mut copy = Guarded::new(record.clone());
+    let refusal = call(copy.place());
+    assert!(copy.take() == *record, "a call wrote into the record");
+    refusal
 }
 
 /// Reads a plan: the refusal number and the record.
@@ -152,73 +137,53 @@ pub fn decode_before(plan: &[u8], beyond: &[u8]) -> (u8, Record) {
     (refusal, record)
 }
 
+/// The same straight into a record, with nothing around the call: for measuring.
+pub fn decode_bare(plan: &[u8], read: &mut Record) -> u8 {
+    // SAFETY: each pointer is valid for its type and length, and no two overlap.
+    unsafe {
+        capi::cutlist_decode(
+            plan.as_ptr(),
+            plan.len(),
+            &mut read.nodes,
+            &mut read.source,
+            &mut read.sink,
+            &mut read.present,
+            &mut read.first,
+            &mut read.second,
+        )
+    }
+}
+
 /// Tests a record: the number of its first fault, 0 if it has none.
 pub fn fault(record: &Record) -> u8 {
-    let mut ends = Ends::of(record);
-
-    // SAFETY: each pointer is valid for its type.
-    let refusal = unsafe {
-        capi::cutlist_fault(
-            record.nodes,
-            record.source,
-            record.sink,
-            record.present,
-            ends.first.place(),
-            ends.second.place(),
-        )
-    };
-
-    ends.assert_unchanged(record);
-    refusal
+    // SAFETY: the pointer is valid for its type.
+    on_a_copy(record, |r| unsafe { capi::cutlist_fault(r) })
 }
 
 /// Writes a plan into `plan`: the refusal number and the count.
 pub fn encode(record: &Record, plan: &mut [u8]) -> (u8, usize) {
-    let mut ends = Ends::of(record);
     let mut lent_bytes = Rows::new(plan);
     let mut count = Guarded::new(usize::from_ne_bytes([STALE; size_of::<usize>()]));
 
     // SAFETY: each pointer is valid for its type and length, and no two overlap.
-    let refusal = unsafe {
-        capi::cutlist_encode(
-            record.nodes,
-            record.source,
-            record.sink,
-            record.present,
-            ends.first.place(),
-            ends.second.place(),
-            lent_bytes.place(),
-            plan.len(),
-            count.place(),
-        )
-    };
+    let refusal = on_a_copy(record, |r| unsafe {
+        capi::cutlist_encode(r, lent_bytes.place(), plan.len(), count.place())
+    });
 
-    ends.assert_unchanged(record);
     plan.copy_from_slice(lent_bytes.take());
     (refusal, count.take())
 }
 
 /// The useful part: the refusal number and both sets.
 pub fn relevant(record: &Record) -> (u8, Part) {
-    let mut ends = Ends::of(record);
     let mut nodes = Guarded::new(u32::from_ne_bytes([STALE; 4]));
     let mut edges = Guarded::new(u64::from_ne_bytes([STALE; 8]));
 
     // SAFETY: each pointer is valid for its type, and no two overlap.
-    let refusal = unsafe {
-        capi::cutlist_relevant(
-            record.nodes,
-            record.source,
-            record.sink,
-            record.present,
-            ends.first.place(),
-            ends.second.place(),
-            nodes.place(),
-            edges.place(),
-        )
-    };
+    let refusal = on_a_copy(record, |r| unsafe {
+        capi::cutlist_relevant(r, nodes.place(), edges.place())
+    });
 
-    ends.assert_unchanged(record);
     let part = Part {
         nodes: nodes.take(),
         edges: edges.take(),
@@ -229,72 +194,41 @@ pub fn relevant(record: &Record) -> (u8, Part) {
 /// The same with nothing around the call: for measuring.
 pub fn relevant_bare(record: &Record) -> (u8, Part) {
     let mut part = Part::default();
-
     // SAFETY: each pointer is valid for its type, and no two overlap.
-    let refusal = unsafe {
-        capi::cutlist_relevant(
-            record.nodes,
-            record.source,
-            record.sink,
-            record.present,
-            &record.first,
-            &record.second,
-            &mut part.nodes,
-            &mut part.edges,
-        )
-    };
-
+    let refusal = unsafe { capi::cutlist_relevant(record, &mut part.nodes, &mut part.edges) };
     (refusal, part)
 }
 
 /// Judges a set of cables: the refusal number and the verdict's number, 0 for none.
 pub fn classify(record: &Record, set: u64) -> (u8, u8) {
-    let mut ends = Ends::of(record);
     let mut verdict = Guarded::new(STALE);
 
     // SAFETY: each pointer is valid for its type, and no two overlap.
-    let refusal = unsafe {
-        capi::cutlist_classify(
-            record.nodes,
-            record.source,
-            record.sink,
-            record.present,
-            ends.first.place(),
-            ends.second.place(),
-            set,
-            verdict.place(),
-        )
-    };
+    let refusal = on_a_copy(record, |r| unsafe {
+        capi::cutlist_classify(r, set, verdict.place())
+    });
 
-    ends.assert_unchanged(record);
     (refusal, verdict.take())
 }
 
 /// Lists the minimal cuts into lent rows: the refusal number and the count.
 pub fn list(record: &Record, cuts: &mut [u64], sides: &mut [u32]) -> (u8, usize) {
-    let mut ends = Ends::of(record);
     let mut lent_cuts = Rows::new(cuts);
     let mut lent_sides = Rows::new(sides);
     let mut count = Guarded::new(usize::from_ne_bytes([STALE; size_of::<usize>()]));
 
     // SAFETY: each pointer is valid for its type and length, and no two overlap.
-    let refusal = unsafe {
+    let refusal = on_a_copy(record, |r| unsafe {
         capi::cutlist_list(
-            record.nodes,
-            record.source,
-            record.sink,
-            record.present,
-            ends.first.place(),
-            ends.second.place(),
+            r,
             lent_cuts.place(),
             cuts.len(),
             lent_sides.place(),
             sides.len(),
             count.place(),
         )
-    };
+    });
 
-    ends.assert_unchanged(record);
     cuts.copy_from_slice(lent_cuts.take());
     sides.copy_from_slice(lent_sides.take());
     (refusal, count.take())
@@ -307,12 +241,7 @@ pub fn list_bare(record: &Record, cuts: &mut [u64], sides: &mut [u32]) -> (u8, u
     // SAFETY: each pointer is valid for its type and length, and no two overlap.
     let refusal = unsafe {
         capi::cutlist_list(
-            record.nodes,
-            record.source,
-            record.sink,
-            record.present,
-            &record.first,
-            &record.second,
+            record,
             cuts.as_mut_ptr(),
             cuts.len(),
             sides.as_mut_ptr(),

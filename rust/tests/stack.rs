@@ -17,7 +17,7 @@ use cutlist_tests::plans;
 use cutlist_tests::record::Record;
 use cutlist_tests::reference;
 use cutlist_tests::rng::Rng;
-use cutlist_tests::sys::capi;
+use cutlist_tests::sys::{self, capi};
 use cutlist_tests::tally::Tally;
 
 /// Stacks are painted with this.
@@ -77,12 +77,7 @@ fn list(r: &Record, rows: &mut Rows, lent: usize) -> (usize, u8) {
     // SAFETY: each pointer is valid for its type and length, and no two overlap.
     let stack = stack_of(|| unsafe {
         refusal = capi::cutlist_list(
-            r.nodes,
-            r.source,
-            r.sink,
-            r.present,
-            &r.first,
-            &r.second,
+            r,
             rows.cuts.as_mut_ptr(),
             lent,
             rows.sides.as_mut_ptr(),
@@ -102,50 +97,19 @@ fn others(r: &Record) -> usize {
     let stacks = unsafe {
         [
             stack_of(|| {
-                capi::cutlist_fault(r.nodes, r.source, r.sink, r.present, &r.first, &r.second);
+                capi::cutlist_fault(r);
             }),
             stack_of(|| {
-                capi::cutlist_relevant(
-                    r.nodes, r.source, r.sink, r.present, &r.first, &r.second, &mut nodes,
-                    &mut edges,
-                );
+                capi::cutlist_relevant(r, &mut nodes, &mut edges);
             }),
             stack_of(|| {
-                capi::cutlist_classify(
-                    r.nodes,
-                    r.source,
-                    r.sink,
-                    r.present,
-                    &r.first,
-                    &r.second,
-                    r.present,
-                    &mut verdict,
-                );
+                capi::cutlist_classify(r, r.present, &mut verdict);
             }),
             stack_of(|| {
-                capi::cutlist_encode(
-                    r.nodes,
-                    r.source,
-                    r.sink,
-                    r.present,
-                    &r.first,
-                    &r.second,
-                    plan.as_mut_ptr(),
-                    plan.len(),
-                    &mut count,
-                );
+                capi::cutlist_encode(r, plan.as_mut_ptr(), plan.len(), &mut count);
             }),
             stack_of(|| {
-                capi::cutlist_decode(
-                    plan.as_ptr(),
-                    count,
-                    &mut read.nodes,
-                    &mut read.source,
-                    &mut read.sink,
-                    &mut read.present,
-                    &mut read.first,
-                    &mut read.second,
-                );
+                sys::decode_bare(&plan[..count], &mut read);
             }),
         ]
     };
