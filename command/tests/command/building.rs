@@ -9,9 +9,9 @@ use std::thread;
 use super::running::*;
 
 /// What a build needs besides rt and cargo.
-const TOOLS: [&str; 12] = [
-    "bash", "cat", "cp", "dirname", "env", "find", "flock", "mkdir", "mv", "readlink", "rm",
-    "sleep",
+const TOOLS: [&str; 14] = [
+    "bash", "cat", "chmod", "cp", "dirname", "env", "find", "flock", "mkdir", "mv", "readlink",
+    "rm", "sleep", "stat",
 ];
 
 const RT: &str = r#"
@@ -181,6 +181,31 @@ fn a_change_of_the_proved_sources_builds_everything() {
     copy.builds(&EVERYTHING);
     fs::remove_file(copy.at("target/staticlib/libcapi.a")).expect("the library");
     copy.builds(&EVERYTHING);
+}
+
+#[test]
+fn a_copied_build_is_no_build() {
+    let copy = Copy::new();
+    copy.builds(&EVERYTHING);
+    change_in_secret(&copy.at("crates/list/src/main.rt"));
+    let again = copy.0 .0.join("again");
+    let copied = run(Command::new("cp").arg("-r").arg(copy.at("")).arg(&again));
+    assert_eq!(copied.status, Some(0), "{copied:?}");
+    fs::remove_dir_all(copy.at("")).expect("the first copy");
+    fs::rename(again, copy.at("")).expect("the second copy in its place");
+    copy.builds(&EVERYTHING);
+}
+
+#[test]
+fn tools_that_end_well_and_make_nothing_are_named() {
+    let copy = Copy::new();
+    copy.tool("rt", "exit 0");
+    copy.run().failed(3, &["the list program is not built"]);
+    copy.tool(
+        "rt",
+        "mkdir -p target/bin && : >target/bin/list && chmod +x target/bin/list",
+    );
+    copy.run().failed(3, &["the library is not built"]);
 }
 
 #[test]

@@ -9,6 +9,13 @@ use super::running::*;
 const LOST: &str = "standard output did not take the whole answer: ";
 
 #[test]
+fn a_file_that_may_not_grow_as_output_is_status_3() {
+    let folder = Folder::new();
+    let file = folder.file("list", "");
+    bash("ulimit -f 0; cutlist >\"$1\"", &[&file]).failed(3, &[LOST, "File too large"]);
+}
+
+#[test]
 fn a_full_device_as_output_is_status_3() {
     let folder = Folder::new();
     let refused = folder.file("refused", "");
