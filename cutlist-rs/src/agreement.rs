@@ -17,6 +17,10 @@ const EXPORTED: &str = include_str!("../../crates/capi/src/lib.rt");
 const LONGEST_PROVED: &str = include_str!("../../crates/format/proofs/Longest.antt");
 const DECIDING_PROVED: &str = include_str!("../../crates/format/proofs/Prefix.antt");
 
+/// What the list program reads, and what the command feeds it.
+const DECIDING_READ: &str = include_str!("../../crates/report/src/lib.rt");
+const DECIDING_FED: &str = include_str!("../../command/src/program.rs");
+
 /// Names by number, as the library has them: EDGE_NOT_PRESENT.
 type Names = BTreeMap<u8, String>;
 
@@ -178,4 +182,8 @@ fn sizes_agree() {
     let deciding = size_of_the_header("CUTLIST_DECIDING_BYTES");
     let proved = between(DECIDING_PROVED, "decodeOf (take ", " s)");
     assert_eq!(number::<usize>(proved), deciding);
+    for text in [DECIDING_READ, DECIDING_FED] {
+        let stated = between(text, "const DECIDING: usize = ", ";");
+        assert_eq!(number::<usize>(stated), deciding);
+    }
 }
