@@ -11,7 +11,7 @@ use crate::sys;
 
 const HEADER: &str = include_str!("../../include/cutlist.h");
 const REFUSALS: &str = include_str!("../../crates/network/src/refusal.rt");
-const JUDGING: &str = include_str!("../../crates/reach/src/judging.rt");
+const JUDGING: &str = include_str!("../../crates/connectivity/src/judging.rt");
 const REFERENCE: &str = include_str!("../../rust/src/reference.rs");
 const EXPORTED: &str = include_str!("../../crates/capi/src/lib.rt");
 const LONGEST_PROVED: &str = include_str!("../../crates/format/proofs/Longest.antt");

@@ -11,8 +11,8 @@ use native.Mathlib.Decide.{ℕ-discrete}
 use native.Mathlib.Omega.{arith}
 use borrow.Author.Tests.{ltb-true}
 use lib.Dec.{ltb}
-use Rattle.lists.specs.Rising.{Rising}
-use Rattle.lists.proofs.Rising.{rising-unique}
+use Rattle.sequences.specs.Rising.{Rising}
+use Rattle.sequences.proofs.Rising.{rising-unique}
 use Rattle.bitset.specs.Members.{has, _∈_, membersFrom, members, Lowest}
 use Rattle.bitset.proofs.Members.{has-bounded}
 use Rattle.bitset.proofs.Sets.{member-lt}

@@ -11,7 +11,7 @@ use lib.Arith.{lt-one}
 use lib.Dec.{eqb, ltb, eqb·zero-suc, eqb·suc-zero, eqb·suc-suc, leb·suc-zero, leb·suc-suc}
 use lib.Pow.{pow-lt, pow-mono, pow-pos, shr-shr}
 use lib.Bits.{bitAnd, bitOr, bitXor, and-shr, or-shr, xor-shr, and-mod, or-mod, xor-mod, and-mask, xor-add-and, or-disjoint, or-lt}
-use Rattle.lists.specs.Counts.{bit}
+use Rattle.sequences.specs.Counts.{bit}
 use Rattle.bitset.specs.Members.{has, insert, _∖_}
 
 -- A law of 0 and of 1 is a law of every digit.

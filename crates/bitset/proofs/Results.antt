@@ -10,7 +10,7 @@ use borrow.Author.Tests.{lt-ltb}
 use lib.Bits.{bitAnd, bitOr}
 use lib.Dec.{eqb, ltb, ltb→lt, lt→ltb}
 use Rattle.bitset.specs.Members.{has, _∈_, insert, _∖_}
-use Rattle.lists.proofs.Tests.{T-and, T-eqb}
+use Rattle.sequences.proofs.Tests.{T-and, T-eqb}
 use Rattle.bitset.proofs.Members.{same-members, has-zero, has-power, has-ones, has-mod, has-and, has-or, has-minus, has-insert, eqb-cases}
 use Rattle.bitset.proofs.Subsets.{and-absorb}
 

@@ -10,7 +10,7 @@ use denote.Floats.{is-true, passes}
 use lib.Dec.{eqb}
 use Rattle.bitset.specs.Members.{has, _∈_, _⊆_, insert, _∖_, Lowest}
 use Rattle.bitset.proofs.Subsets.{⊆-refl, subset-lt, same-test}
-use Rattle.lists.proofs.Tests.{T-and, T-not, T-eqb}
+use Rattle.sequences.proofs.Tests.{T-and, T-not, T-eqb}
 use Rattle.bitset.proofs.Members.{has-zero}
 use Rattle.bitset.proofs.Sets.{same-set, in-insert, in-minus, member-lt}
 

@@ -12,7 +12,7 @@ use lib.Count.{trailingZeros}
 use lib.Pow.{pow-pos}
 use lib.Dec.{eqb, ltb, ltb→lt, lt→ltb}
 use Rattle.bitset.specs.Members.{has, _∈_, _⊆_, insert, _∖_, size}
-use Rattle.lists.proofs.Tests.{T-dec, T-or, T-and, T-not, T-eqb}
+use Rattle.sequences.proofs.Tests.{T-dec, T-or, T-and, T-not, T-eqb}
 use Rattle.bitset.proofs.Members.{same-members-below, lt-pow, has-bounded, has-zero, has-power, has-and, has-or, has-minus, has-insert, has-mod, insert-or}
 use Rattle.bitset.proofs.Subsets.{same-test, ⊆-antisym}
 use Rattle.bitset.proofs.Size.{size-insert, lowest-trailing, lowest-none}

@@ -11,7 +11,7 @@ use lib.Arith.{lt-one}
 use lib.Bits.{bitAnd}
 use lib.Count.{ones, trailingZeros, under, ones-step, ones-ones}
 use lib.Dec.{T, eqb, eqb·suc-zero, eqb·suc-suc}
-use Rattle.lists.specs.Counts.{bit}
+use Rattle.sequences.specs.Counts.{bit}
 use Rattle.bitset.specs.Members.{has, _⊆_, insert, size, Lowest}
 use Rattle.bitset.proofs.Members.{has-first, first-digit, has-next, has-insert, has-inserted, has-and}
 use Rattle.bitset.proofs.Subsets.{insert-⊆}

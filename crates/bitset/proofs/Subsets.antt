@@ -13,7 +13,7 @@ use denote.Floats.{is-true, passes}
 use lib.Arith.{lt-of-le-ne, lt-one}
 use lib.Bits.{bitAnd, and-le-r}
 use lib.Dec.{T}
-use Rattle.lists.specs.Rising.{Rising}
+use Rattle.sequences.specs.Rising.{Rising}
 use Rattle.bitset.specs.Members.{has, _⊆_, insert, subsets}
 use Rattle.bitset.proofs.Members.{same-members, has-zero, has-and, has-insert, has-inserted, has-bounded, eqb-cases}
 

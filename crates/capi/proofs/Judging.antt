@@ -4,9 +4,9 @@ use mathlib.Core.Path.{_≡_, refl}
 use Prim.Native.Nat.{ℕ}
 use native.Mathlib.Omega.{arith}
 use Rattle.network.specs.declared.Network.{Network}
-use Rattle.reach.specs.declared.Verdict.{Verdict}
-use Rattle.reach.specs.declared.Verdict.the-variants.{NotCut, NotMinimal, Minimal, Refused}
-use Rattle.reach.specs.Answers.{VerdictMeans, numbersOf}
+use Rattle.connectivity.specs.declared.Verdict.{Verdict}
+use Rattle.connectivity.specs.declared.Verdict.the-variants.{NotCut, NotMinimal, Minimal, Refused}
+use Rattle.connectivity.specs.Answers.{VerdictMeans, numbersOf}
 use Rattle.capi.specs.Fields.{JudgedMeans}
 
 -- The numbers of a verdict mean what the verdict says.

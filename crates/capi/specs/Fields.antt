@@ -14,7 +14,7 @@ use Rattle.network.specs.declared.Network.{Network}
 use Rattle.network.specs.Record.{Stored}
 use Rattle.format.specs.Format.{decodeOf, encodedBy, bytesAfter}
 use Rattle.graph.specs.Cuts.{Cut, Mincut}
-use Rattle.reach.specs.Answers.{relevantOf, verdictOf, numbersOf}
+use Rattle.connectivity.specs.Answers.{relevantOf, verdictOf, numbersOf}
 use Rattle.listing.specs.List.{listedBy, cutRowsAfter, sideRowsAfter}
 
 pub record Read (s : List ℕ) (r : ℕ) (N : Network) : Type 0 where

@@ -9,7 +9,7 @@ ghost use Rattle.network.specs.Record.{assembled, faultOf};
 ghost use Rattle.network.specs.Rules.{FaultMeans};
 ghost use Rattle.widths.specs.Widths.{widthsOf};
 ghost use Rattle.format.specs.Meaning.{ReadMeans, WrittenMeans};
-ghost use Rattle.reach.specs.Answers.{PartMeans};
+ghost use Rattle.connectivity.specs.Answers.{PartMeans};
 ghost use Rattle.listing.specs.List.{ListMeans};
 ghost use Rattle.capi.specs.Fields.{Read, Written, Found, Judged, JudgedMeans, Listing};
 
@@ -117,7 +117,7 @@ pub extern "C" fn cutlist_relevant(
     ensures { λ r. ⌜ Found (assembled nodes source sink present (now (first .entry)) (now (second .entry))) r (now («node_set» .exit)) (now («edge_set» .exit)) ⌝ }
     ensures means { λ r. ⌜ PartMeans (assembled nodes source sink present (now (first .entry)) (now (second .entry))) r (now («node_set» .exit)) (now («edge_set» .exit)) ⌝ }
 {
-    let part = reach::relevant(assemble(nodes, source, sink, present, first, second));
+    let part = connectivity::relevant(assemble(nodes, source, sink, present, first, second));
     let relevant_nodes = part.nodes;
     let relevant_edges = part.edges;
     *node_set = relevant_nodes.0;
@@ -141,12 +141,12 @@ pub extern "C" fn cutlist_classify(
     ensures { λ r. ⌜ Judged (assembled nodes source sink present (now (first .entry)) (now (second .entry))) set r (now (verdict .exit)) ⌝ }
     ensures means { λ r. ⌜ JudgedMeans (assembled nodes source sink present (now (first .entry)) (now (second .entry))) set r (now (verdict .exit)) ⌝ }
 {
-    let judged = reach::classify(
+    let judged = connectivity::classify(
         assemble(nodes, source, sink, present, first, second),
         EdgeSet(set),
     );
-    *verdict = reach::verdict_number(judged);
-    reach::refusal_number(judged)
+    *verdict = connectivity::verdict_number(judged);
+    connectivity::refusal_number(judged)
 }
 
 // Lists the minimal cuts, rising, each beside its near side. Gives the refusal's number, 0 if there is none, and the count of rows listed,

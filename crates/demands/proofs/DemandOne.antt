@@ -10,7 +10,7 @@ use borrow.Author.Tests.{lt-ltb, le-ltb}
 use lib.Bits.{bitAnd}
 use lib.ListN.{length, drop, length-append, length-drop, length-map}
 use lib.Seq.{drop-at}
-use Rattle.lists.specs.Words.{onto}
+use Rattle.sequences.specs.Words.{onto}
 use Rattle.bitset.specs.Members.{_⊆_}
 use Rattle.bitset.proofs.Subsets.{subset-and}
 use Rattle.network.specs.declared.Network.{Network}
@@ -27,10 +27,10 @@ use Rattle.graph.specs.Lists.{Outnumber}
 use Rattle.graph.specs.Relevant.{relevantNodes, relevantEdges, sourceSideOf}
 use Rattle.graph.proofs.Sound.{Sound, accepted-sound}
 use Rattle.graph.proofs.Relevant.{in-relevantNodes, in-relevantEdges}
-use Rattle.reach.specs.declared.Verdict.{Verdict}
-use Rattle.reach.specs.declared.Verdict.the-variants.{NotCut, NotMinimal, Minimal, Refused}
-use Rattle.reach.specs.Answers.{relevantOf, judgeFault, verdictOf, Says, numbersOf}
-use Rattle.reach.proofs.Answers.{part-refused, part-accepted, judge-record, judge-absent, judge-none, verdict-refused, verdict-right}
+use Rattle.connectivity.specs.declared.Verdict.{Verdict}
+use Rattle.connectivity.specs.declared.Verdict.the-variants.{NotCut, NotMinimal, Minimal, Refused}
+use Rattle.connectivity.specs.Answers.{relevantOf, judgeFault, verdictOf, Says, numbersOf}
+use Rattle.connectivity.proofs.Answers.{part-refused, part-accepted, judge-record, judge-absent, judge-none, verdict-refused, verdict-right}
 use Rattle.listing.specs.declared.Listed.{Listed}
 use Rattle.listing.specs.List.{mincuts, sourceSides, listRefusal, listedBy, cutRowsAfter, sideRowsAfter}
 use Rattle.listing.proofs.Refusals.{Case, faulty, unpaired, outnumbered, complete, call-case, refusal-none}

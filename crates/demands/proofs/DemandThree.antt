@@ -6,14 +6,14 @@ use mathlib.Core.Logic.{_↔_, Iff·trans}
 use Prim.Native.Nat.{ℕ}
 use lib.ListN.{length, getD}
 use lib.Seq.{ext-getD}
-use Rattle.lists.specs.Words.{onto}
-use Rattle.lists.proofs.Words.{getD-onto}
+use Rattle.sequences.specs.Words.{onto}
+use Rattle.sequences.proofs.Words.{getD-onto}
 use Rattle.network.specs.declared.Network.{Network}
 use Rattle.network.specs.Record.{Stored}
 use Rattle.format.specs.Format.{decodeOf}
 use Rattle.graph.specs.Paths.{SameMinpaths}
 use Rattle.graph.specs.Lists.{SameList}
-use Rattle.cuts.proofs.Lists.{lists-equal}
+use Rattle.branches.proofs.Lists.{lists-equal}
 use Rattle.listing.specs.List.{mincuts, listedBy, cutRowsAfter}
 use Rattle.listing.proofs.Mincuts.{mincuts-lists}
 use Rattle.listing.proofs.Call.{complete-call}

@@ -8,16 +8,16 @@ use Prim.Native.Nat.{ℕ, _^_, _<_}
 use native.Mathlib.Omega.{arith}
 use lib.Dec.{T, eqb}
 use lib.ListN.{length, getD}
-use Rattle.lists.specs.Words.{every, passing}
-use Rattle.lists.proofs.Words.{T-every}
-use Rattle.lists.proofs.Places.{mem-at}
+use Rattle.sequences.specs.Words.{every, passing}
+use Rattle.sequences.proofs.Words.{T-every}
+use Rattle.sequences.proofs.Places.{mem-at}
 use Rattle.bitset.specs.Members.{has, insert, _∖_, size, subsets, membersFrom}
-use Rattle.lists.proofs.Tests.{T-and, T-eqb}
+use Rattle.sequences.proofs.Tests.{T-and, T-eqb}
 use Rattle.network.specs.declared.Network.{Network}
 use Rattle.network.specs.Record.{_when_, _then_, sizeFault, pairFault, bare, withEdge}
 use Rattle.format.specs.Format.{numberFault, sizeRefusal, terminalsRefusal, edgeRefusal, endRefusal, sizeStep, terminalsStep, edgeStep, ifTaken, edges, decodeOf}
 use Rattle.format.proofs.Reading.{accepts, decode-plan}
-use Rattle.lists.specs.Counts.{countIf}
+use Rattle.sequences.specs.Counts.{countIf}
 use Rattle.widths.specs.Widths.{tabulate, widthsOf}
 use Rattle.graph.specs.Cuts.{only, Cut, Mincut}
 use Rattle.graph.specs.Reach.{addIf, across, roundOver, rounds, reachOf}
@@ -28,7 +28,7 @@ use Rattle.graph.proofs.Reach.{in-reach-single}
 use Rattle.graph.proofs.Cuts.{cutTest-iff, mincutTest-iff}
 use Rattle.graph.proofs.Relevant.{in-relevantNodes, in-relevantEdges}
 use Rattle.listing.specs.List.{mincuts, sourceSides}
-use Rattle.demands.specs.Halls.{Judged, Hall, bridge, barCable, spur, hangingTriangle, noCable, twoCables, inARow, exchanged, halls, networkOf, widthTable, same, judgedTest, hallTests, hallTest, Established}
+use Rattle.demands.specs.Halls.{JudgedSet, Hall, bridge, barCable, spur, hangingTriangle, noCable, twoCables, inARow, exchanged, halls, networkOf, widthTable, same, judgedTest, hallTests, hallTest, Established}
 use Rattle.text.specs.Text.{digits, decimal, spaced, numbers, lineOf, wordLine, rowLines, listText}
 use Rattle.report.specs.Report.{listReport, reportOf}
 use Rattle.listing.proofs.Meaning.{mincuts-complete}
@@ -51,7 +51,7 @@ T-beq false true t = absurd t
 T-beq false false t = Iff·rfl
 
 -- A judged set that passes is what the table says.
-judged-right : (N : Network) → Sound N → (j : Judged) → T (judgedTest N j) → (T (j .cut) ↔ Cut N (j .set)) × (T (j .mincut) ↔ Mincut N (j .set))
+judged-right : (N : Network) → Sound N → (j : JudgedSet) → T (judgedTest N j) → (T (j .cut) ↔ Cut N (j .set)) × (T (j .mincut) ↔ Mincut N (j .set))
 unfolding judgedTest
 judged-right N S j t =
     let p = T-and (Bool·beq (cutTest N (j .set)) (j .cut)) (Bool·beq (mincutTest N (j .set)) (j .mincut)) .0 t in (

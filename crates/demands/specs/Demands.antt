@@ -16,7 +16,7 @@ use Rattle.network.specs.Rules.{Rules}
 use Rattle.format.specs.Format.{accept, decodeOf, encodeOf, encodedBy, bytesAfter}
 use Rattle.graph.specs.Paths.{SameMinpaths}
 use Rattle.graph.specs.Lists.{CompleteList, SameList, Outnumber}
-use Rattle.reach.specs.Answers.{relevantOf, verdictOf}
+use Rattle.connectivity.specs.Answers.{relevantOf, verdictOf}
 use Rattle.listing.specs.List.{listedBy, cutRowsAfter, sideRowsAfter}
 use Rattle.report.specs.Report.{reportOf}
 use Rattle.demands.specs.Endings.{ReaderEnds, PartEnds, JudgingEnds, ListEnds, WriterEnds, ReportEnds}

@@ -25,9 +25,9 @@ use Rattle.format.specs.declared.Encoded.{Encoded}
 use Rattle.format.specs.Format.{readerRefusals, accept, refuse, decodeOf, encodeOf}
 use Rattle.graph.specs.Cuts.{RelevantEdge, RelevantNode}
 use Rattle.graph.specs.Lists.{CompleteList, Outnumber}
-use Rattle.reach.specs.declared.RelevantPart.{RelevantPart}
-use Rattle.reach.specs.declared.Verdict.{Verdict}
-use Rattle.reach.specs.Answers.{partFrom, Says, numbersOf}
+use Rattle.connectivity.specs.declared.RelevantPart.{RelevantPart}
+use Rattle.connectivity.specs.declared.Verdict.{Verdict}
+use Rattle.connectivity.specs.Answers.{partFrom, Says, numbersOf}
 use Rattle.listing.specs.declared.Listed.{Listed}
 use Rattle.text.specs.Text.{refusalLine, listText, maxRows}
 

@@ -1,6 +1,6 @@
 -- The starred halls of the paper ("Halls to try"): a table, and the test of it, which computes.
 --
---   Judged               a judged set: its number, whether it is a cut, and whether it is a mincut
+--   JudgedSet               a judged set: its number, whether it is a cut, and whether it is a mincut
 --   Hall                 a plan in bytes, its cuts and sides, the sets judged on it, how many cuts have width 0, 1, .., the points that the
 --                        server reaches, the relevant nodes and edges, and what the list program prints
 --   halls                the table; what the paper leaves out is worked out by hand
@@ -18,7 +18,7 @@ use mathlib.Core.Path.{_≡_}
 use Prim.Native.Nat.{ℕ, _-_, _^_}
 use lib.Dec.{T, eqb}
 use lib.ListN.{length, replicate}
-use Rattle.lists.specs.Words.{every}
+use Rattle.sequences.specs.Words.{every}
 use Rattle.bitset.specs.Members.{_∈_}
 use Rattle.network.specs.declared.Network.{Network}
 use Rattle.format.specs.Format.{decodeOf}
@@ -33,7 +33,7 @@ use Rattle.listing.specs.List.{mincuts, sourceSides}
 use Rattle.text.specs.Ascii.{bytes}
 use Rattle.report.specs.Report.{reportOf}
 
-pub record Judged : Type 0 where
+pub record JudgedSet : Type 0 where
   pub set : ℕ
   pub cut : Bool
   pub mincut : Bool
@@ -42,7 +42,7 @@ pub record Hall : Type 0 where
   pub plan : List ℕ
   pub cuts : List ℕ
   pub sides : List ℕ
-  pub judged : List Judged
+  pub judged : List JudgedSet
   pub widths : List ℕ
   pub reached : ℕ
   pub nodes : ℕ
@@ -53,7 +53,7 @@ pub record Hall : Type 0 where
 
 -- The server is point 0 in every hall, and a hall has as many points as its cables need.
 
--- Judged on it: 9 no cut, 7 not minimal, 14 minimal. Widths: two of 2, two of 3.
+-- JudgedSet on it: 9 no cut, 7 not minimal, 14 minimal. Widths: two of 2, two of 3.
 unfoldable pub bridge : Hall
 bridge = record {
   plan = 0x50 ∷ 4 ∷ 0x53 ∷ 0 ∷ 3 ∷ 0x43 ∷ 0 ∷ 0 ∷ 1 ∷ 0x43 ∷ 1 ∷ 0 ∷ 2 ∷ 0x43 ∷ 2 ∷ 1 ∷ 2 ∷ 0x43 ∷ 3 ∷ 1 ∷ 3 ∷ 0x43 ∷ 4 ∷ 2 ∷ 3 ∷ 0x45 ∷ [];
@@ -186,7 +186,7 @@ same [] (y ∷ m) = false
 same (x ∷ l) [] = false
 same (x ∷ l) (y ∷ m) = eqb x y && same l m
 
-unfoldable pub judgedTest : Network → Judged → Bool
+unfoldable pub judgedTest : Network → JudgedSet → Bool
 judgedTest N j = Bool·beq (cutTest N (j .set)) (j .cut) && Bool·beq (mincutTest N (j .set)) (j .mincut)
 
 unfoldable pub hallTests : Hall → List Bool
@@ -210,7 +210,7 @@ hallTest h = every (λ b. b) (hallTests h)
 pub record Established (h : Hall) : Type 0 where
   pub accepted : decodeOf (h .plan) .refusal ≡ 0
   pub complete : CompleteList (networkOf h) (length (h .cuts)) (h .cuts) (h .sides)
-  pub judged : (j : Judged) → List·Memᴰ j (h .judged) → (T (j .cut) ↔ Cut (networkOf h) (j .set)) × (T (j .mincut) ↔ Mincut (networkOf h) (j .set))
+  pub judged : (j : JudgedSet) → List·Memᴰ j (h .judged) → (T (j .cut) ↔ Cut (networkOf h) (j .set)) × (T (j .mincut) ↔ Mincut (networkOf h) (j .set))
   pub widths : widthsOf (h .cuts) ≡ widthTable h
   pub reached : (v : ℕ) → (v ∈ h .reached) ↔ Connected (networkOf h) (networkOf h .source) v
   pub nodes : (v : ℕ) → (v ∈ h .nodes) ↔ RelevantNode (networkOf h) v

@@ -18,7 +18,7 @@ use Rattle.graph.specs.Cuts.{only}
 use Rattle.graph.proofs.Walks.{joins-sym}
 use Rattle.graph.proofs.EdgeSets.{joins-stored}
 use Rattle.graph.proofs.Sound.{Sound}
-use Rattle.enumeration.specs.Tables.{Near, At}
+use Rattle.enumeration.specs.Tables.{Adjacency, Incidence}
 
 -- The table t with the member b more at place a.
 abbrev pub with-at : List ℕ → ℕ → ℕ → List ℕ
@@ -62,11 +62,11 @@ in-with-both t a b x y h l v w =
 module _ (N : Network) where
   -- No edge is gone through, and the tables are empty.
   module _ (t : List ℕ) (empty : (v : ℕ) → getD t v 0 ≡ 0) where
-    pub near-first : Near (only N 0) t
+    pub near-first : Adjacency (only N 0) t
     unfolding Joins only
     near-first v w h = rw (empty v) (λ m. absurd (rw (has-zero w) at m), λ j. absurd (rw (has-zero (j .0)) at (j .1 .0)))
 
-    pub at-first : At (only N 0) t
+    pub at-first : Incidence (only N 0) t
     unfolding Joins only
     at-first v e h = rw (empty v) (λ m. absurd (rw (has-zero e) at m), λ j. absurd (rw (has-zero e) at (j .1 .0)))
 
@@ -100,7 +100,7 @@ module _ (N : Network) where
     )
 
     -- Each of its ends is beside the other.
-    pub near-next : Near (only N s) t → Near (only N (insert s k)) (with-at (with-at t (firstEnd N k) (secondEnd N k)) (secondEnd N k) (firstEnd N k))
+    pub near-next : Adjacency (only N s) t → Adjacency (only N (insert s k)) (with-at (with-at t (firstEnd N k) (secondEnd N k)) (secondEnd N k) (firstEnd N k))
     near-next old v w h =
         let both = in-with-both t (firstEnd N k) (secondEnd N k) (secondEnd N k) (firstEnd N k) first second v w in (
           λ m. elim (both .0 m) [
@@ -114,7 +114,7 @@ module _ (N : Network) where
         )
 
     -- It is at each of its ends.
-    pub at-next : At (only N s) t → At (only N (insert s k)) (with-at (with-at t (firstEnd N k) k) (secondEnd N k) k)
+    pub at-next : Incidence (only N s) t → Incidence (only N (insert s k)) (with-at (with-at t (firstEnd N k) k) (secondEnd N k) k)
     at-next old v e h =
         let both = in-with-both t (firstEnd N k) (secondEnd N k) k k first second v e in (
           λ m. elim (both .0 m) [

@@ -13,10 +13,10 @@ use Rattle.graph.specs.Relevant.{relevantNodes, relevantEdges}
 use Rattle.graph.proofs.Sound.{Sound}
 use Rattle.graph.proofs.EdgeSets.{in-edgesWithin}
 use Rattle.graph.proofs.Relevant.{in-relevantNodes}
-use Rattle.cuts.specs.declared.Branch.{Branch}
-use Rattle.cuts.specs.Enumeration.{relevantPart, blank, Row, joinRows, rows}
-use Rattle.cuts.proofs.Branches.{sink-relevant}
-use Rattle.cuts.proofs.Complete.{rows-join}
+use Rattle.branches.specs.declared.Branch.{Branch}
+use Rattle.branches.specs.Enumeration.{relevantNetwork, blank, Row, joinRows, rows}
+use Rattle.branches.proofs.Branches.{sink-relevant}
+use Rattle.branches.proofs.Complete.{rows-join}
 use Rattle.enumeration.specs.Rows.{Fed, Put}
 
 module _ (N : Network) (S : Sound N) where
@@ -31,7 +31,7 @@ module _ (N : Network) (S : Sound N) where
 
   module _ (b : Branch) (none : b ≡ blank N) where
     -- The sink is in the rest, and it is not undecided.
-    pub blank-fed : Fed (relevantPart N) b
+    pub blank-fed : Fed (relevantNetwork N) b
     unfolding blank only
     blank-fed = rw none (record { sink = sink-relevant N S; decided = λ m. in-drop (relevantNodes N) (N .sink) (N .sink) .0 m .1 refl })
 
@@ -46,8 +46,8 @@ module _ (N : Network) (S : Sound N) where
     source-rest = rw none source-relevant
 
     -- The rows in which the source joins are all rows.
-    pub put-all : (n limit : ℕ) (cuts sides cuts′ sides′ : List ℕ) (r : ℕ) → Put (joinRows (relevantPart N) b (N .source)) n limit cuts sides cuts′ sides′ r
+    pub put-all : (n limit : ℕ) (cuts sides cuts′ sides′ : List ℕ) (r : ℕ) → Put (joinRows (relevantNetwork N) b (N .source)) n limit cuts sides cuts′ sides′ r
         → Put (rows N) n limit cuts sides cuts′ sides′ r
     put-all n limit cuts sides cuts′ sides′ r =
         subst (λ (l : List Row). Put l n limit cuts sides cuts′ sides′ r)
-        (ap (λ (x : Branch). joinRows (relevantPart N) x (N .source)) none ∙ rows-join N S)
+        (ap (λ (x : Branch). joinRows (relevantNetwork N) x (N .source)) none ∙ rows-join N S)

@@ -16,19 +16,19 @@ use Rattle.graph.specs.Reach.{round, Bounded}
 use Rattle.graph.specs.Relevant.{reachIn, edgesAt}
 use Rattle.graph.proofs.Reach.{in-round}
 use Rattle.graph.proofs.EdgeSets.{in-edgesAt}
-use Rattle.cuts.specs.declared.Branch.{Branch}
-use Rattle.cuts.specs.Enumeration.{candidate, joined, leftOut, isOpen, Row, rowOf, rowsIf, joinRows, leaveOutRows}
-use Rattle.cuts.proofs.ReachIn.{reachIn-start, reachIn-⊆, reachIn-same}
-use Rattle.cuts.proofs.Recursion.{candidate-in, rows-leaf, rows-split}
-use Rattle.enumeration.specs.Tables.{Near, At}
-use Rattle.enumeration.specs.Rows.{Fed, Whole, Room, Put}
+use Rattle.branches.specs.declared.Branch.{Branch}
+use Rattle.branches.specs.Enumeration.{candidate, joined, leftOut, isOpen, Row, rowOf, rowsIf, joinRows, leaveOutRows}
+use Rattle.branches.proofs.ReachIn.{reachIn-start, reachIn-⊆, reachIn-same}
+use Rattle.branches.proofs.Recursion.{candidate-in, rows-leaf, rows-split}
+use Rattle.enumeration.specs.Tables.{Adjacency, Incidence}
+use Rattle.enumeration.specs.Rows.{Fed, Whole, Capacity, Put}
 use Rattle.enumeration.proofs.Putting.{put-none, put-both}
 
 -- ---- a node joins
 
 module _ (M : Network) (B : Bounded M) where
   -- The node v and the nodes beside it are the round of v.
-  pub beside-round : (near : List ℕ) → Near M near → (v : ℕ) → v < 32 → (s : ℕ) → insert (bitOr s (getD near v 0)) v ≡ bitOr s (round M (2 ^ v))
+  pub beside-round : (near : List ℕ) → Adjacency M near → (v : ℕ) → v < 32 → (s : ℕ) → insert (bitOr s (getD near v 0)) v ≡ bitOr s (round M (2 ^ v))
   beside-round near table v h s = same-set (λ k.
       let over = in-round M (B .edges) (2 ^ v) k in (
         λ m. in-or s (round M (2 ^ v)) k .1 (elim (in-insert (bitOr s (getD near v 0)) v k .0 m) [
@@ -48,7 +48,7 @@ module _ (M : Network) (B : Bounded M) where
       ))
 
   -- The table has the edges at v.
-  pub at-edges : (at : List ℕ) → At M at → (v : ℕ) → v < 32 → getD at v 0 ≡ edgesAt M v
+  pub at-edges : (at : List ℕ) → Incidence M at → (v : ℕ) → v < 32 → getD at v 0 ≡ edgesAt M v
   at-edges at table v h = same-set (λ e.
       let both = in-edgesAt M B v e in (
         λ m. both .1 (table v e h .0 m),
@@ -121,7 +121,7 @@ leave-out-half M b v d e t f = ap (rowsIf (has (b .rest .0) v) M) (sym e) ∙ ap
 
 -- The rows l of a half, which enters the branch d if the test t holds.
 module _ (M : Network) (l : List Row) (t : Bool) (d : Branch) (half : l ≡ rowsIf t M d)
-    (n limit : ℕ) (cuts sides : List ℕ) (room : Room n limit cuts sides) where
+    (n limit : ℕ) (cuts sides : List ℕ) (room : Capacity n limit cuts sides) where
   -- It is not entered.
   pub shut-put : t ≡ false → Put l n limit cuts sides cuts sides n
   shut-put e = rw (half, e) (put-none n limit cuts sides room)

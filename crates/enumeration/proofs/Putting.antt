@@ -7,11 +7,11 @@ use native.Mathlib.Decide.{decLe}
 use native.Mathlib.Omega.{arith}
 use lib.ListN.{length, length-append, length-map}
 use lib.Seq.{sets, length-sets}
-use Rattle.lists.proofs.Stores.{sets-append, sets-out}
-use Rattle.cuts.specs.Enumeration.{Row, cutsOf, sidesOf}
-use Rattle.enumeration.specs.Rows.{Room, Put}
+use Rattle.sequences.proofs.Stores.{sets-append, sets-out}
+use Rattle.branches.specs.Enumeration.{Row, cutsOf, sidesOf}
+use Rattle.enumeration.specs.Rows.{Capacity, Put}
 
-module _ (n limit : ℕ) (cuts sides : List ℕ) (room : Room n limit cuts sides) where
+module _ (n limit : ℕ) (cuts sides : List ℕ) (room : Capacity n limit cuts sides) where
   -- No row is put.
   pub put-none : Put [] n limit cuts sides cuts sides n
   put-none = record { count = omega arith; put-cuts = refl; put-sides = refl }

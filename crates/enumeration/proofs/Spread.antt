@@ -17,8 +17,8 @@ use Rattle.bitset.proofs.Scans.{Less}
 use Rattle.network.specs.declared.Network.{Network}
 use Rattle.graph.specs.Reach.{Bounded}
 use Rattle.graph.specs.Relevant.{reachIn}
-use Rattle.cuts.proofs.ReachIn.{reachIn-induct, reachIn-start, reachIn-⊆, reachIn-over}
-use Rattle.enumeration.specs.Tables.{Near}
+use Rattle.branches.proofs.ReachIn.{reachIn-induct, reachIn-start, reachIn-⊆, reachIn-over}
+use Rattle.enumeration.specs.Tables.{Adjacency}
 
 -- A set of nodes that holds, with each of its nodes, those beside it inside the set `within`.
 abbrev pub Kept : List ℕ → ℕ → ℕ → Type 0
@@ -59,7 +59,7 @@ turn-of beside within reached fresh v inside found others reached′ fresh′ le
 }
 
 module _ (near : List ℕ) (within start : ℕ) where
-  -- At first the start alone is reached, if it is a node, and it is fresh.
+  -- Incidence first the start alone is reached, if it is a node, and it is fresh.
   pub spread-first : (t : ℕ) → ((j : ℕ) → (j ∈ t) ↔ ((j ≡ start) × (start < 32))) → Spread near within start t t
   spread-first t alone = record {
     first = λ h. alone start .1 (refl, h);
@@ -121,7 +121,7 @@ module _ (near : List ℕ) (within start : ℕ) where
   -- Where none is fresh, what is reached is what the start reaches inside the set.
   pub spread-last : (reached fresh : ℕ) → Spread near within start reached fresh → ((j : ℕ) → j ∈ fresh → ⊥)
       → reached < 2 ^ 32 → within < 2 ^ 32
-      → (M : Network) → Bounded M → Near M near → start ∈ within → reached ≡ reachIn M within start
+      → (M : Network) → Bounded M → Adjacency M near → start ∈ within → reached ≡ reachIn M within start
   spread-last reached fresh s none small narrow M B table there =
       ⊆-antisym reached (reachIn M within start)
       (s .least (reachIn M within start) (reachIn-start M B within start there) (λ x y m i k.

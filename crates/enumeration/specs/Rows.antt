@@ -3,7 +3,7 @@
 --   Fed M b          the sink is in the rest of the branch b, and it is not undecided
 --   Whole M b        the rest of the branch b is what the sink reaches inside it
 --   WholeWithout M b v          the same, asked only where v is not in that rest
---   Room n limit cuts sides     rows are counted to one past the limit, and n are; no area is longer than the limit
+--   Capacity n limit cuts sides     rows are counted to one past the limit, and n are; no area is longer than the limit
 --   Put l n limit cuts sides cuts′ sides′ r
 --                    the areas cuts and sides have become cuts′ and sides′: they hold the rows of l from place n on, as far as they reach,
 --                    and r is the place after these rows, at most one past the limit
@@ -17,8 +17,8 @@ use lib.Seq.{sets}
 use Rattle.bitset.specs.Members.{_∈_, _∖_}
 use Rattle.network.specs.declared.Network.{Network}
 use Rattle.graph.specs.Relevant.{reachIn}
-use Rattle.cuts.specs.declared.Branch.{Branch}
-use Rattle.cuts.specs.Enumeration.{Row, cutsOf, sidesOf, joined, joinRows, leaveOutRows}
+use Rattle.branches.specs.declared.Branch.{Branch}
+use Rattle.branches.specs.Enumeration.{Row, cutsOf, sidesOf, joined, joinRows, leaveOutRows}
 use Rattle.enumeration.specs.Tables.{Tables}
 
 pub record Fed (M : Network) (b : Branch) : Type 0 where
@@ -31,7 +31,7 @@ Whole M b = reachIn M (b .rest .0) (M .sink) ≡ b .rest .0
 abbrev pub WholeWithout : Network → Branch → ℕ → Type 0
 WholeWithout M b v = (v ∈ b .rest .0 → ⊥) → Whole M b
 
-pub record Room (n limit : ℕ) (cuts sides : List ℕ) : Type 0 where
+pub record Capacity (n limit : ℕ) (cuts sides : List ℕ) : Type 0 where
   pub counted : n ≤ limit + 1
   pub limited : limit + 1 < 2 ^ 64
   pub cuts-end : length cuts ≤ limit
@@ -44,17 +44,17 @@ pub record Put (l : List Row) (n limit : ℕ) (cuts sides cuts′ sides′ : Lis
 
 -- ---- the steps
 
-module _ (near at : List ℕ) (sink : ℕ) (b : Branch) (v : ℕ) where
+module _ (adjacent incident : List ℕ) (sink : ℕ) (b : Branch) (v : ℕ) where
   -- The branch r is b with v joined.
   abbrev pub JoinedBranch : Branch → Type 0
-  JoinedBranch r = (M : Network) → Tables M near at → sink ≡ M .sink → sink ∈ (b .rest .0 ∖ 2 ^ v) → WholeWithout M b v → r ≡ joined M b v
+  JoinedBranch r = (M : Network) → Tables M adjacent incident → sink ≡ M .sink → sink ∈ (b .rest .0 ∖ 2 ^ v) → WholeWithout M b v → r ≡ joined M b v
 
   -- The rows in which v joins are put.
   abbrev pub JoinPut : ℕ → ℕ → List ℕ → List ℕ → List ℕ → List ℕ → ℕ → Type 0
   JoinPut n limit cuts sides cuts′ sides′ r =
-      (M : Network) → Tables M near at → sink ≡ M .sink → Fed M b → WholeWithout M b v → Put (joinRows M b v) n limit cuts sides cuts′ sides′ r
+      (M : Network) → Tables M adjacent incident → sink ≡ M .sink → Fed M b → WholeWithout M b v → Put (joinRows M b v) n limit cuts sides cuts′ sides′ r
 
   -- The rows in which v is left out are put.
   abbrev pub LeaveOutPut : ℕ → ℕ → List ℕ → List ℕ → List ℕ → List ℕ → ℕ → Type 0
   LeaveOutPut n limit cuts sides cuts′ sides′ r =
-      (M : Network) → Tables M near at → sink ≡ M .sink → Fed M b → Whole M b → Put (leaveOutRows M b v) n limit cuts sides cuts′ sides′ r
+      (M : Network) → Tables M adjacent incident → sink ≡ M .sink → Fed M b → Whole M b → Put (leaveOutRows M b v) n limit cuts sides cuts′ sides′ r

@@ -1,5 +1,5 @@
-// The enumeration of the source sides (the paper's near sides): a node beside the side joins it, or is left out for good.
-use cuts::Branch;
+// The enumeration of the source sides (the paper's adjacent sides): a node beside the side joins it, or is left out for good.
+use branches::Branch;
 use edge_set::EdgeSet;
 use network::Network;
 use node_set::NodeSet;
@@ -12,36 +12,36 @@ ghost use Rattle.network.specs.Record.{faultOf, present};
 ghost use Rattle.graph.specs.Reach.{Bounded};
 ghost use Rattle.graph.specs.Cuts.{only};
 ghost use Rattle.graph.specs.Relevant.{reachIn, relevantNodes, relevantEdges};
-ghost use Rattle.cuts.specs.Enumeration.{candidate, leftOut, isOpen, rowOf, rows, blank};
-ghost use Rattle.enumeration.specs.Tables.{Near, At};
-ghost use Rattle.enumeration.specs.Rows.{Room, Put, JoinedBranch, JoinPut, LeaveOutPut};
+ghost use Rattle.branches.specs.Enumeration.{candidate, leftOut, isOpen, rowOf, rows, blank};
+ghost use Rattle.enumeration.specs.Tables.{Adjacency, Incidence};
+ghost use Rattle.enumeration.specs.Rows.{Capacity, Put, JoinedBranch, JoinPut, LeaveOutPut};
 
 // ---- the tables
 
 // The node b is beside the node a.
-fn link(near: &mut [u32; 32], a: u8, b: u8)
+fn add_adjacent(adjacent: &mut [u32; 32], a: u8, b: u8)
     requires { ⌜ (a < 32) × (b < 32) ⌝ }
-    ensures { λ _. ⌜ now (near .exit) ≡ set (now (near .entry)) a (insert (getD (now (near .entry)) a 0) b) ⌝ }
+    ensures { λ _. ⌜ now (adjacent .exit) ≡ set (now (adjacent .entry)) a (insert (getD (now (adjacent .entry)) a 0) b) ⌝ }
 {
     let slot = a as usize;
-    let beside = NodeSet(near[slot]).with(b as u32);
-    near[slot] = beside.0;
+    let beside = NodeSet(adjacent[slot]).with(b as u32);
+    adjacent[slot] = beside.0;
 }
 
 // The edge e is at the node a.
-fn hang(at: &mut [u64; 32], a: u8, e: u32)
+fn add_incident(incident: &mut [u64; 32], a: u8, e: u32)
     requires { ⌜ (a < 32) × (e < 64) ⌝ }
-    ensures { λ _. ⌜ now (at .exit) ≡ set (now (at .entry)) a (insert (getD (now (at .entry)) a 0) e) ⌝ }
+    ensures { λ _. ⌜ now (incident .exit) ≡ set (now (incident .entry)) a (insert (getD (now (incident .entry)) a 0) e) ⌝ }
 {
     let slot = a as usize;
-    let edges = EdgeSet(at[slot]).with(e);
-    at[slot] = edges.0;
+    let edges = EdgeSet(incident[slot]).with(e);
+    incident[slot] = edges.0;
 }
 
 // For each node the nodes beside it and the edges at it, over the given edges, into two empty tables.
-fn fill_tables(network: Network, edges: EdgeSet, near: &mut [u32; 32], at: &mut [u64; 32])
-    requires { ⌜ (faultOf network ≡ 0) × (edges .0 ⊆ present network) × (now near ≡ replicate 32 0) × (now at ≡ replicate 32 0) ⌝ }
-    ensures { λ _. ⌜ Near (only network (edges .0)) (now (near .exit)) × At (only network (edges .0)) (now (at .exit)) ⌝ }
+fn fill_tables(network: Network, edges: EdgeSet, adjacent: &mut [u32; 32], incident: &mut [u64; 32])
+    requires { ⌜ (faultOf network ≡ 0) × (edges .0 ⊆ present network) × (now adjacent ≡ replicate 32 0) × (now incident ≡ replicate 32 0) ⌝ }
+    ensures { λ _. ⌜ Adjacency (only network (edges .0)) (now (adjacent .exit)) × Incidence (only network (edges .0)) (now (incident .exit)) ⌝ }
 {
     let mut left = edges;
     loop {
@@ -50,10 +50,10 @@ fn fill_tables(network: Network, edges: EdgeSet, near: &mut [u32; 32], at: &mut 
             return;
         }
         let slot = k as usize;
-        link(near, network.first[slot], network.second[slot]);
-        link(near, network.second[slot], network.first[slot]);
-        hang(at, network.first[slot], k);
-        hang(at, network.second[slot], k);
+        add_adjacent(adjacent, network.first[slot], network.second[slot]);
+        add_adjacent(adjacent, network.second[slot], network.first[slot]);
+        add_incident(incident, network.first[slot], k);
+        add_incident(incident, network.second[slot], k);
         left = left.without_lowest();
     }
 }
@@ -61,8 +61,8 @@ fn fill_tables(network: Network, edges: EdgeSet, near: &mut [u32; 32], at: &mut 
 // ---- the branches
 
 // What the start reaches by walks that stay inside the set: of the nodes found, each in turn finds those beside it.
-fn reach_in(near: &[u32; 32], within: NodeSet, start: u32) -> NodeSet
-    ensures { λ r. ⌜ ((M : Network) → Bounded M → Near M (now (near .entry)) → start ∈ within .0 → r .0 ≡ reachIn M (within .0) start) ⌝ }
+fn reach_in(adjacent: &[u32; 32], within: NodeSet, start: u32) -> NodeSet
+    ensures { λ r. ⌜ ((M : Network) → Bounded M → Adjacency M (now (adjacent .entry)) → start ∈ within .0 → r .0 ≡ reachIn M (within .0) start) ⌝ }
 {
     let first = NodeSet::single(start);
     let mut reached = first;
@@ -73,7 +73,7 @@ fn reach_in(near: &[u32; 32], within: NodeSet, start: u32) -> NodeSet
             break reached;
         }
         let slot = v as usize;
-        let inside = NodeSet(near[slot]).intersection(within);
+        let inside = NodeSet(adjacent[slot]).intersection(within);
         let found = inside.difference(reached);
         reached = reached.union(found);
         let others = fresh.without_lowest();
@@ -83,36 +83,36 @@ fn reach_in(near: &[u32; 32], within: NodeSet, start: u32) -> NodeSet
 }
 
 // What the sink reaches once v has joined: as before if it did not reach v.
-fn rest_without(near: &[u32; 32], rest: NodeSet, v: u32, sink: u32) -> NodeSet
-    ensures { λ r. ⌜ ((M : Network) → Bounded M → Near M (now (near .entry)) → sink ∈ (rest .0 ∖ 2 ^ v)
+fn rest_without(adjacent: &[u32; 32], rest: NodeSet, v: u32, sink: u32) -> NodeSet
+    ensures { λ r. ⌜ ((M : Network) → Bounded M → Adjacency M (now (adjacent .entry)) → sink ∈ (rest .0 ∖ 2 ^ v)
         → ((v ∈ rest .0 → ⊥) → reachIn M (rest .0) sink ≡ rest .0) → r .0 ≡ reachIn M (rest .0 ∖ 2 ^ v) sink) ⌝ }
 {
     if rest.contains(v) {
-        reach_in(near, rest.without(v), sink)
+        reach_in(adjacent, rest.without(v), sink)
     } else {
         rest
     }
 }
 
 // The branch with v joined.
-fn joined(near: &[u32; 32], at: &[u64; 32], b: Branch, v: u32, sink: u32) -> Branch
+fn joined(adjacent: &[u32; 32], incident: &[u64; 32], b: Branch, v: u32, sink: u32) -> Branch
     requires { ⌜ v < 32 ⌝ }
-    ensures { λ r. ⌜ (r .undecided .0 ≡ b .undecided .0 ∖ 2 ^ v) × JoinedBranch (now (near .entry)) (now (at .entry)) sink b v r ⌝ }
+    ensures { λ r. ⌜ (r .undecided .0 ≡ b .undecided .0 ∖ 2 ^ v) × JoinedBranch (now (adjacent .entry)) (now (incident .entry)) sink b v r ⌝ }
 {
     let slot = v as usize;
     let side = b.side.with(v);
     let out = b.out;
     let undecided = b.undecided.without(v);
-    let rest = rest_without(near, b.rest, v, sink);
-    let beside = b.border.union(NodeSet(near[slot]));
-    let border = beside.with(v);
-    let cut = EdgeSet(b.cut.0 ^ at[slot]);
+    let rest = rest_without(adjacent, b.rest, v, sink);
+    let beside = b.around.union(NodeSet(adjacent[slot]));
+    let around = beside.with(v);
+    let cut = EdgeSet(b.cut.0 ^ incident[slot]);
     Branch {
         side,
         out,
         undecided,
         rest,
-        border,
+        around,
         cut,
     }
 }
@@ -126,14 +126,14 @@ fn left_out(b: Branch, v: u32) -> Branch
     let out = b.out.with(v);
     let undecided = b.undecided.without(v);
     let rest = b.rest;
-    let border = b.border;
+    let around = b.around;
     let cut = b.cut;
     Branch {
         side,
         out,
         undecided,
         rest,
-        border,
+        around,
         cut,
     }
 }
@@ -142,7 +142,7 @@ fn left_out(b: Branch, v: u32) -> Branch
 fn candidate(b: Branch) -> u32
     ensures { λ r. ⌜ r ≡ candidate b ⌝ }
 {
-    let beside = b.border.intersection(b.undecided);
+    let beside = b.around.intersection(b.undecided);
     u32::trailing_zeros(beside.0)
 }
 
@@ -176,8 +176,8 @@ fn put_side(sides: &mut [u32], n: usize, side: NodeSet)
 
 // The row of a branch without a candidate, at place n. Gives the place after it.
 fn put_row(b: Branch, cuts: &mut [u64], sides: &mut [u32], n: usize, limit: usize) -> usize
-    requires { ⌜ (n ≤ limit) × Room n limit (now cuts) (now sides) ⌝ }
-    ensures { λ r. ⌜ Room r limit (now (cuts .exit)) (now (sides .exit)) × Put (rowOf b ∷ [])
+    requires { ⌜ (n ≤ limit) × Capacity n limit (now cuts) (now sides) ⌝ }
+    ensures { λ r. ⌜ Capacity r limit (now (cuts .exit)) (now (sides .exit)) × Put (rowOf b ∷ [])
         n limit (now (cuts .entry)) (now (sides .entry)) (now (cuts .exit)) (now (sides .exit)) r ⌝ }
 {
     put_cut(cuts, n, b.cut);
@@ -187,8 +187,8 @@ fn put_row(b: Branch, cuts: &mut [u64], sides: &mut [u32], n: usize, limit: usiz
 
 // Writes the rows in which v joins from place n on, and gives the place after them. One row past the limit, which no area holds, is enough.
 fn join(
-    near: &[u32; 32],
-    at: &[u64; 32],
+    adjacent: &[u32; 32],
+    incident: &[u64; 32],
     sink: u32,
     b: Branch,
     v: u32,
@@ -197,14 +197,14 @@ fn join(
     n: usize,
     limit: usize,
 ) -> usize
-    requires { ⌜ (v < 32) × (v ∈ b .undecided .0) × Room n limit (now cuts) (now sides) ⌝ }
-    ensures { λ r. ⌜ Room r limit (now (cuts .exit)) (now (sides .exit)) × JoinPut (now (near .entry)) (now (at .entry)) sink b v
+    requires { ⌜ (v < 32) × (v ∈ b .undecided .0) × Capacity n limit (now cuts) (now sides) ⌝ }
+    ensures { λ r. ⌜ Capacity r limit (now (cuts .exit)) (now (sides .exit)) × JoinPut (now (adjacent .entry)) (now (incident .entry)) sink b v
         n limit (now (cuts .entry)) (now (sides .entry)) (now (cuts .exit)) (now (sides .exit)) r ⌝ }
 {
     if limit < n {
         return n;
     }
-    let next = joined(near, at, b, v, sink);
+    let next = joined(adjacent, incident, b, v, sink);
     if !is_open(next) {
         return n;
     }
@@ -212,14 +212,14 @@ fn join(
     if 32 <= w {
         return put_row(next, cuts, sides, n, limit);
     }
-    let m = join(near, at, sink, next, w, cuts, sides, n, limit);
-    leave_out(near, at, sink, next, w, cuts, sides, m, limit)
+    let m = join(adjacent, incident, sink, next, w, cuts, sides, n, limit);
+    leave_out(adjacent, incident, sink, next, w, cuts, sides, m, limit)
 }
 
 // Writes the rows in which v is left out for good from place n on, and gives the place after them.
 fn leave_out(
-    near: &[u32; 32],
-    at: &[u64; 32],
+    adjacent: &[u32; 32],
+    incident: &[u64; 32],
     sink: u32,
     b: Branch,
     v: u32,
@@ -228,8 +228,8 @@ fn leave_out(
     n: usize,
     limit: usize,
 ) -> usize
-    requires { ⌜ (v < 32) × (v ∈ b .undecided .0) × Room n limit (now cuts) (now sides) ⌝ }
-    ensures { λ r. ⌜ Room r limit (now (cuts .exit)) (now (sides .exit)) × LeaveOutPut (now (near .entry)) (now (at .entry)) sink b v
+    requires { ⌜ (v < 32) × (v ∈ b .undecided .0) × Capacity n limit (now cuts) (now sides) ⌝ }
+    ensures { λ r. ⌜ Capacity r limit (now (cuts .exit)) (now (sides .exit)) × LeaveOutPut (now (adjacent .entry)) (now (incident .entry)) sink b v
         n limit (now (cuts .entry)) (now (sides .entry)) (now (cuts .exit)) (now (sides .exit)) r ⌝ }
 {
     if limit < n {
@@ -244,8 +244,8 @@ fn leave_out(
     if 32 <= w {
         return put_row(next, cuts, sides, n, limit);
     }
-    let m = join(near, at, sink, next, w, cuts, sides, n, limit);
-    leave_out(near, at, sink, next, w, cuts, sides, m, limit)
+    let m = join(adjacent, incident, sink, next, w, cuts, sides, n, limit);
+    leave_out(adjacent, incident, sink, next, w, cuts, sides, m, limit)
 }
 
 // The branch in which nothing is decided yet.
@@ -257,7 +257,7 @@ fn blank(nodes: NodeSet, sink: u32) -> Branch
         out: NodeSet(0),
         undecided: nodes.without(sink),
         rest: nodes,
-        border: NodeSet(0),
+        around: NodeSet(0),
         cut: EdgeSet(0),
     }
 }
@@ -272,14 +272,24 @@ pub fn enumerate(
     limit: usize,
 ) -> usize
     requires { ⌜ (faultOf network ≡ 0) × (nodes .0 ≡ relevantNodes network) × (edges .0 ≡ relevantEdges network)
-        × Room 0 limit (now cuts) (now sides) ⌝ }
+        × Capacity 0 limit (now cuts) (now sides) ⌝ }
     ensures { λ r. ⌜ Put (rows network) 0 limit (now (cuts .entry)) (now (sides .entry)) (now (cuts .exit)) (now (sides .exit)) r ⌝ }
 {
-    let mut near = [0u32; 32];
-    let mut at = [0u64; 32];
-    fill_tables(network, edges, &mut near, &mut at);
+    let mut adjacent = [0u32; 32];
+    let mut incident = [0u64; 32];
+    fill_tables(network, edges, &mut adjacent, &mut incident);
     let source = network.source as u32;
     let sink = network.sink as u32;
     let first = blank(nodes, sink);
-    join(&near, &at, sink, first, source, cuts, sides, 0, limit)
+    join(
+        &adjacent,
+        &incident,
+        sink,
+        first,
+        source,
+        cuts,
+        sides,
+        0,
+        limit,
+    )
 }

@@ -4,7 +4,7 @@ use mathlib.Core.List.{List, [], _∷_, _++_, flatMap}
 use mathlib.Core.Path.{_≡_, refl}
 use Prim.Native.Nat.{ℕ, _≤_}
 use lib.ListN.{length}
-use Rattle.lists.specs.Words.{range}
+use Rattle.sequences.specs.Words.{range}
 use Rattle.network.specs.Record.{_when_, _then_, slots, sizeFault, pairFault, bare, withEdge}
 use Rattle.format.specs.Format.{ifTaken, edges, decodeOf, sizeStep, sizeRefusal, terminalsStep, terminalsRefusal, edgeStep, edgeRefusal, endRefusal, numberFault}
 use Rattle.format.proofs.Reading.{accepts, decode-plan}

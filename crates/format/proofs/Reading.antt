@@ -9,7 +9,7 @@ use native.Mathlib.Decide.{ℕ-discrete}
 use native.Mathlib.Omega.{arith}
 use lib.Dec.{T}
 use lib.ListN.{length, drop, getD-replicate}
-use Rattle.lists.specs.Words.{range}
+use Rattle.sequences.specs.Words.{range}
 use Rattle.bitset.proofs.Members.{has-zero}
 use Rattle.network.specs.declared.Network.{Network}
 use Rattle.network.specs.Record.{among, Stored, Slot, slot, slotFault, endFault, absentFault, faultOf, bare, withEdge, hasEdge, firstEnd, secondEnd, noNetwork}

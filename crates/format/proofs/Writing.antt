@@ -12,7 +12,7 @@ use lib.Dec.{ltb, eqb}
 use lib.ListN.{length, getD, take, drop, set, replicate, length-append, length-drop}
 use lib.Seq.{take-suc, take-all, length-take-le, set-at, append-snoc, sets, sets-eq, drop-drop, drop-at, take-at, take-add, take-append-seam, drop-append-seam}
 use borrow.Author.Tests.{lt-ltb, le-ltb, eq-eqb, ne-eqb, ltb-false}
-use Rattle.lists.specs.Words.{range}
+use Rattle.sequences.specs.Words.{range}
 use Rattle.bitset.specs.Members.{has, insert, size}
 use Rattle.bitset.proofs.Members.{has-insert, has-mod, same-members}
 use Rattle.network.specs.declared.Network.{Network}

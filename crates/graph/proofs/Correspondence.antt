@@ -6,7 +6,7 @@ use mathlib.Core.Logic.{inl, inr, _↔_, Iff·trans, Iff·symm, Iff·and, Iff·r
 use Prim.Native.Nat.{ℕ, _^_}
 use lib.Dec.{T}
 use Rattle.bitset.specs.Members.{has, _⊆_, _∖_, _∈_}
-use Rattle.lists.proofs.Tests.{T-and, T-xor}
+use Rattle.sequences.proofs.Tests.{T-and, T-xor}
 use Rattle.bitset.proofs.Sets.{in-minus, in-single, same-set}
 use Rattle.network.specs.declared.Network.{Network}
 use Rattle.network.specs.Record.{firstEnd, secondEnd, present}

@@ -6,11 +6,11 @@ use mathlib.Core.Logic.{_↔_, Dec·of-iff, Iff·symm, Iff·trans, Iff·and, Iff
 use Prim.Native.Nat.{ℕ, _^_}
 use lib.Bits.{bitAnd}
 use lib.Dec.{T, eqb}
-use Rattle.lists.specs.Words.{every}
-use Rattle.lists.proofs.Words.{T-every}
+use Rattle.sequences.specs.Words.{every}
+use Rattle.sequences.proofs.Words.{T-every}
 use Rattle.bitset.specs.Members.{has, _⊆_, _∖_, members, _∈_}
 use Rattle.bitset.proofs.Subsets.{⊆-trans, subset-and}
-use Rattle.lists.proofs.Tests.{T-not, T-then, T-eqb}
+use Rattle.sequences.proofs.Tests.{T-not, T-then, T-eqb}
 use Rattle.bitset.proofs.Sets.{∈-dec, in-and, minus-⊆, member-lt}
 use Rattle.bitset.proofs.MemberList.{in-members}
 use Rattle.network.specs.Record.{present}

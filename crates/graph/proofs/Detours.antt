@@ -4,19 +4,19 @@ use mathlib.Core.Path.{_≡_, refl, sym}
 use mathlib.Core.List.{List, [], _∷_, _++_, List·Memᴰ, List·Memᴰ·head, List·Memᴰ·tail, List·Memᴰ·not-nil, List·Memᴰ·cases-cons, List·Memᴰ·append-cases, List·Memᴰ·eq-of-singleton, Memᴰ·append-right, Memᴰ·cast}
 use mathlib.Core.Logic.{_⊎_, inl, inr, ⊎-swap}
 use Prim.Native.Nat.{ℕ}
-use Rattle.lists.specs.Distinct.{Distinct}
+use Rattle.sequences.specs.Distinct.{Distinct}
 use Rattle.bitset.specs.Members.{_⊆_, _∈_}
 use Rattle.network.specs.declared.Network.{Network}
-use Rattle.graph.specs.Paths.{Joins, Step, Leads, nodesFrom, Simple, edgesOf}
+use Rattle.graph.specs.Paths.{Joins, Hop, Leads, nodesFrom, Simple, edgesOf}
 use Rattle.graph.proofs.Walks.{mem-dec, reached, edges-cons, edges-append, reached-within, nodes-append, simple-append, back, edges-back, leads-append, leads-back, nodes-back, split, simple-after, shorten}
 use Rattle.graph.proofs.Nodes.{nodes-within, simple-back}
 
 -- ---- the first node on a list
 
 -- The part of the steps p from u on up to the first node that stands in l.
-record Approach (N : Network) (l : List ℕ) (u : ℕ) (p : List Step) : Type 0 where
+record Approach (N : Network) (l : List ℕ) (u : ℕ) (p : List Hop) : Type 0 where
   end : ℕ
-  steps : List Step
+  steps : List Hop
   leads : Leads N u steps end
   simple : Simple u steps
   within : (v : ℕ) → List·Memᴰ v (nodesFrom u steps) → List·Memᴰ v (nodesFrom u p)
@@ -25,7 +25,7 @@ record Approach (N : Network) (l : List ℕ) (u : ℕ) (p : List Step) : Type 0 
 
 module _ (N : Network) (l : List ℕ) where
   -- No step is taken from a node of l.
-  stay : (u : ℕ) (p : List Step) → List·Memᴰ u l → Approach N l u p
+  stay : (u : ℕ) (p : List Hop) → List·Memᴰ u l → Approach N l u p
   unfolding Leads Distinct
   stay u p m = record {
     end = u;
@@ -38,7 +38,7 @@ module _ (N : Network) (l : List ℕ) where
   }
 
   -- A simple path to a node of l has a first node of l.
-  approach : (u : ℕ) (p : List Step) {t : ℕ} → Leads N u p t → Simple u p → List·Memᴰ t l → Approach N l u p
+  approach : (u : ℕ) (p : List Hop) {t : ℕ} → Leads N u p t → Simple u p → List·Memᴰ t l → Approach N l u p
   unfolding Leads Distinct
   approach u [] h simple m = stay u [] (Memᴰ·cast h m)
   approach u (s ∷ p) h simple m = go (mem-dec u l) (approach (s .to) p (h .1) (simple .1) m)
@@ -58,14 +58,14 @@ module _ (N : Network) (l : List ℕ) where
 -- ---- a detour
 
 -- A simple path d from a to b on which no other node stands in l.
-record Detour (N : Network) (l : List ℕ) (a b : ℕ) (d : List Step) : Type 0 where
+record Detour (N : Network) (l : List ℕ) (a b : ℕ) (d : List Hop) : Type 0 where
   leads : Leads N a d b
   simple : Simple a d
   meets : (v : ℕ) → List·Memᴰ v (nodesFrom a d) → List·Memᴰ v l → (v ≡ a) ⊎ (v ≡ b)
 
 -- A simple path from u to t that takes every edge of d, and meets only nodes of p and of d.
-record Bypass (N : Network) (u : ℕ) (p : List Step) (t a : ℕ) (d : List Step) : Type 0 where
-  steps : List Step
+record Bypass (N : Network) (u : ℕ) (p : List Hop) (t a : ℕ) (d : List Hop) : Type 0 where
+  steps : List Hop
   leads : Leads N u steps t
   simple : Simple u steps
   edges : edgesOf d ⊆ edgesOf steps
@@ -73,7 +73,7 @@ record Bypass (N : Network) (u : ℕ) (p : List Step) (t a : ℕ) (d : List Step
 
 module _ (N : Network) where
   -- A detour can be walked back.
-  detour-back : (l : List ℕ) (a b : ℕ) (d : List Step) → Detour N l a b d → Detour N l b a (back a d)
+  detour-back : (l : List ℕ) (a b : ℕ) (d : List Hop) → Detour N l a b d → Detour N l b a (back a d)
   unfolding ⊎-swap
   detour-back l a b d r = record {
     leads = leads-back N d a b (r .leads);
@@ -82,7 +82,7 @@ module _ (N : Network) where
   }
 
   -- A detour from the first node of a path to another takes the place of the part between the two.
-  replace : (p d : List Step) (u t b : ℕ) → Leads N u p t → Simple u p → Detour N (nodesFrom u p) u b d
+  replace : (p d : List Hop) (u t b : ℕ) → Leads N u p t → Simple u p → Detour N (nodesFrom u p) u b d
       → List·Memᴰ b (nodesFrom u p) → Bypass N u p t u d
   unfolding Distinct
   replace p d u t b h simple r m =
@@ -109,7 +109,7 @@ module _ (N : Network) where
       }
 
   -- The same for a detour to the first node of a path.
-  replace-back : (p d : List Step) (u t a : ℕ) → Leads N u p t → Simple u p → Detour N (nodesFrom u p) a u d
+  replace-back : (p d : List Hop) (u t a : ℕ) → Leads N u p t → Simple u p → Detour N (nodesFrom u p) a u d
       → List·Memᴰ a (nodesFrom u p) → Bypass N u p t a d
   replace-back p d u t a h simple r m =
       let q = replace p (back a d) u t a h simple (detour-back (nodesFrom u p) a u d r) m in
@@ -122,7 +122,7 @@ module _ (N : Network) where
       }
 
   -- A detour past the first node of a path leaves the first step as it was.
-  bypass-later : (s : Step) (p d : List Step) (u t a b : ℕ) → Leads N u (s ∷ p) t → Simple u (s ∷ p)
+  bypass-later : (s : Hop) (p d : List Hop) (u t a b : ℕ) → Leads N u (s ∷ p) t → Simple u (s ∷ p)
       → Detour N (nodesFrom u (s ∷ p)) a b d → List·Memᴰ a (reached (s ∷ p)) → List·Memᴰ b (reached (s ∷ p))
       → Bypass N (s .to) p t a d → Bypass N u (s ∷ p) t a d
   unfolding Leads Distinct
@@ -142,7 +142,7 @@ module _ (N : Network) where
       new (inr e) = simple .0 (Memᴰ·cast e n)
 
   -- A detour between two nodes of a path takes the place of the part between the two.
-  bypass : (p d : List Step) (u t a b : ℕ) → Leads N u p t → Simple u p → Detour N (nodesFrom u p) a b d
+  bypass : (p d : List Hop) (u t a b : ℕ) → Leads N u p t → Simple u p → Detour N (nodesFrom u p) a b d
       → List·Memᴰ a (nodesFrom u p) → List·Memᴰ b (nodesFrom u p) → Bypass N u p t a d
   unfolding Leads Distinct
   bypass [] d u t a b h simple r m n =
@@ -162,7 +162,7 @@ module _ (N : Network) where
       ]
 
   -- The step over an edge to a path's side, and on to the first node of the path: a detour.
-  side-detour : (l : List ℕ) (q : List Step) (x y e : ℕ) → Joins N e x y → (List·Memᴰ x (nodesFrom y q) → ⊥) → (r : Approach N l y q)
+  side-detour : (l : List ℕ) (q : List Hop) (x y e : ℕ) → Joins N e x y → (List·Memᴰ x (nodesFrom y q) → ⊥) → (r : Approach N l y q)
       → Detour N l x (r .end) (record { edge = e; to = y } ∷ r .steps)
   unfolding Leads Distinct
   side-detour l q x y e j off r = record {
@@ -172,9 +172,9 @@ module _ (N : Network) where
   }
 
   -- If x stands on a simple path, and y, at the other end of e, has a walk to the path that avoids x, then a simple path takes e.
-  pub led-through : (p q : List Step) (u t x y z e : ℕ) → Leads N u p t → Simple u p → List·Memᴰ x (nodesFrom u p) → Joins N e x y
+  pub led-through : (p q : List Hop) (u t x y z e : ℕ) → Leads N u p t → Simple u p → List·Memᴰ x (nodesFrom u p) → Joins N e x y
       → Leads N y q z → List·Memᴰ z (nodesFrom u p) → (List·Memᴰ x (nodesFrom y q) → ⊥)
-      → (r : List Step) × Leads N u r t × Simple u r × (e ∈ edgesOf r)
+      → (r : List Hop) × Leads N u r t × Simple u r × (e ∈ edgesOf r)
   led-through p q u t x y z e h simple m j walk n off =
       let k = shorten N q y z walk in
       let r = approach N (nodesFrom u p) y (k .steps) (k .leads) (k .simple) n in

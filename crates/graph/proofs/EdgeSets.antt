@@ -10,11 +10,11 @@ use native.Mathlib.Omega.{arith}
 use lib.Dec.{T, eqb}
 use Rattle.bitset.specs.Members.{has, _⊆_, _∈_}
 use Rattle.bitset.proofs.Members.{has-zero}
-use Rattle.lists.proofs.Tests.{T-and, T-or, T-eqb}
+use Rattle.sequences.proofs.Tests.{T-and, T-or, T-eqb}
 use Rattle.bitset.proofs.Sets.{member-lt}
 use Rattle.network.specs.declared.Network.{Network}
 use Rattle.network.specs.Record.{hasEdge, firstEnd, secondEnd, present}
-use Rattle.graph.specs.Paths.{Joins, Step, Leads, edgesOf}
+use Rattle.graph.specs.Paths.{Joins, Hop, Leads, edgesOf}
 use Rattle.graph.specs.Cuts.{only}
 use Rattle.graph.specs.Reach.{reachOf, Bounded}
 use Rattle.graph.specs.Relevant.{chosen, edgesAt, edgesWithin}
@@ -91,7 +91,7 @@ module _ (N : Network) (B : Bounded N) where
 
   -- What h reaches over the edges of g are the nodes to which a walk from h takes edges of g alone.
   pub in-reach-over : (g : ℕ) → g ⊆ present N → (h v : ℕ)
-      → (v ∈ reachOf (only N g) (2 ^ h)) ↔ ((p : List Step) × (Leads N h p v × (edgesOf p ⊆ g)))
+      → (v ∈ reachOf (only N g) (2 ^ h)) ↔ ((p : List Hop) × (Leads N h p v × (edgesOf p ⊆ g)))
   in-reach-over g l h v =
       let reach = in-reach-single (only N g) (bounded-only N B g l) h v in (
         λ m. let w = reach .0 m in (w .0, leads-within N g l (w .0) h v .0 (w .1)),

@@ -4,11 +4,11 @@ use mathlib.Core.Path.{_≡_, refl, sym, ap, ap₂, _∙_}
 use mathlib.Core.List.{List, [], _∷_, Memᴰ·cast}
 use mathlib.Core.Logic.{inl, inr, _↔_}
 use Prim.Native.Nat.{ℕ}
-use Rattle.lists.specs.Distinct.{Distinct}
+use Rattle.sequences.specs.Distinct.{Distinct}
 use Rattle.bitset.specs.Members.{_⊆_, _∈_}
 use Rattle.network.specs.Record.{present}
 use Rattle.network.specs.declared.Network.{Network}
-use Rattle.graph.specs.Paths.{Joins, Step, Leads, Simple, edgesOf, Minpath, Connected}
+use Rattle.graph.specs.Paths.{Joins, Hop, Leads, Simple, edgesOf, Minpath, Connected}
 use Rattle.graph.specs.Cuts.{only}
 use Rattle.graph.proofs.Walks.{edges-nil, edges-cons, edges-within, joins-other, end-met, ends-met, shorten, edges-present, leads-only, leads-within}
 
@@ -20,7 +20,7 @@ module _ (N : Network) where
   minpath-present r m = rw (← m .members) (edges-present N (m .steps) (N .source) (N .sink) (m .leads))
 
   -- A walk from source to sink holds a minpath.
-  pub walk-minpath : (p : List Step) → Leads N (N .source) p (N .sink) → (r : ℕ) × (Minpath N r × (r ⊆ edgesOf p))
+  pub walk-minpath : (p : List Hop) → Leads N (N .source) p (N .sink) → (r : ℕ) × (Minpath N r × (r ⊆ edgesOf p))
   walk-minpath p h =
       let q = shorten N p (N .source) (N .sink) h in
       let m : Minpath N (edgesOf (q .steps)) = record { steps = q .steps; leads = q .leads; simple = q .simple; members = refl } in
@@ -59,13 +59,13 @@ module _ (N : Network) where
   -- ---- no minpath holds another
 
   -- Only the first edge of a simple path touches its first node.
-  first-alone : (s : Step) (p : List Step) (u v e y : ℕ) → Leads N u (s ∷ p) v → Simple u (s ∷ p)
+  first-alone : (s : Hop) (p : List Hop) (u v e y : ℕ) → Leads N u (s ∷ p) v → Simple u (s ∷ p)
       → Joins N e u y → e ∈ edgesOf p → ⊥
   unfolding Leads Distinct
   first-alone s p u v e y h d j m = d .0 (ends-met N p (s .to) v e u y (h .1) m j)
 
   -- Two simple paths with the same ends are the same if one takes no edge that the other does not take.
-  paths-same : (p q : List Step) (u v : ℕ) → Leads N u p v → Simple u p → Leads N u q v → Simple u q
+  paths-same : (p q : List Hop) (u v : ℕ) → Leads N u p v → Simple u p → Leads N u q v → Simple u q
       → edgesOf p ⊆ edgesOf q → p ≡ q
   unfolding Leads Distinct
   paths-same [] [] u v h d k c l = refl

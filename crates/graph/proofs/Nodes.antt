@@ -4,21 +4,21 @@ use mathlib.Core.Path.{refl, sym}
 use mathlib.Core.List.{List, [], _∷_, List·Memᴰ, List·Memᴰ·head, List·Memᴰ·tail, List·Memᴰ·not-nil, List·Memᴰ·cases-cons, List·Memᴰ·eq-of-singleton, Memᴰ·cast}
 use mathlib.Core.Logic.{inl, inr}
 use Prim.Native.Nat.{ℕ}
-use Rattle.lists.specs.Distinct.{Distinct}
+use Rattle.sequences.specs.Distinct.{Distinct}
 use Rattle.bitset.specs.Members.{_∈_}
 use Rattle.network.specs.declared.Network.{Network}
-use Rattle.graph.specs.Paths.{Joins, Step, Leads, nodesFrom, Simple, edgesOf}
+use Rattle.graph.specs.Paths.{Joins, Hop, Leads, nodesFrom, Simple, edgesOf}
 use Rattle.graph.proofs.Walks.{reached-within, edges-cons, simple-append, back, nodes-back}
 
 -- Steps from u that are all among others from u meet no further node.
-pub nodes-within : (u : ℕ) (p q : List Step) → ((s : Step) → List·Memᴰ s p → List·Memᴰ s q)
+pub nodes-within : (u : ℕ) (p q : List Hop) → ((s : Hop) → List·Memᴰ s p → List·Memᴰ s q)
     → (v : ℕ) → List·Memᴰ v (nodesFrom u p) → List·Memᴰ v (nodesFrom u q)
 nodes-within u p q h v m =
     elim (List·Memᴰ·cases-cons m) [ inl e ↦ List·Memᴰ·head e | inr m′ ↦ List·Memᴰ·tail (reached-within p q h v m′) ]
 
 module _ (N : Network) where
   -- A simple path walked back is simple.
-  pub simple-back : (p : List Step) (u v : ℕ) → Leads N u p v → Simple u p → Simple v (back u p)
+  pub simple-back : (p : List Hop) (u v : ℕ) → Leads N u p v → Simple u p → Simple v (back u p)
   unfolding Leads Distinct back
   simple-back [] u v h d = (List·Memᴰ·not-nil, tt)
   simple-back (s ∷ p) u v h d =
@@ -29,7 +29,7 @@ module _ (N : Network) where
       )
 
   -- What holds at the start of a walk, and is carried over each of its edges, holds at each of its nodes.
-  pub carried : (P : ℕ → Type 0) (p : List Step) (u v : ℕ) → Leads N u p v
+  pub carried : (P : ℕ → Type 0) (p : List Hop) (u v : ℕ) → Leads N u p v
       → ((e : ℕ) → e ∈ edgesOf p → (x y : ℕ) → Joins N e x y → P x → P y)
       → P u → (x : ℕ) → List·Memᴰ x (nodesFrom u p) → P x
   unfolding Leads

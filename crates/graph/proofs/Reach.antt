@@ -18,7 +18,7 @@ use Rattle.bitset.proofs.Sets.{∈-dec, in-insert, in-single, member-lt}
 use Rattle.bitset.proofs.MemberList.{in-members}
 use Rattle.network.specs.declared.Network.{Network}
 use Rattle.network.specs.Record.{firstEnd, secondEnd, present}
-use Rattle.graph.specs.Paths.{Joins, Step, Leads, Connected}
+use Rattle.graph.specs.Paths.{Joins, Hop, Leads, Connected}
 use Rattle.graph.specs.Cuts.{only}
 use Rattle.graph.specs.Reach.{Bounded, addIf, across, edgeList, roundOver, rounds, round, reachOf, Closed}
 
@@ -96,7 +96,7 @@ module _ (N : Network) (small : present N < 2 ^ 64) where
   round-grows s v m = in-round s v .1 (inl m)
 
 -- A walk does not leave a closed set.
-pub closed-walk : (N : Network) (s : ℕ) → Closed N s → (p : List Step) (u v : ℕ) → Leads N u p v → u ∈ s → v ∈ s
+pub closed-walk : (N : Network) (s : ℕ) → Closed N s → (p : List Hop) (u v : ℕ) → Leads N u p v → u ∈ s → v ∈ s
 unfolding Leads
 closed-walk N s c [] u v h m = rw (← h) m
 closed-walk N s c (t ∷ p) u v h m = closed-walk N s c p (t .to) v (h .1) (c (t .edge) u (t .to) (h .0) m)

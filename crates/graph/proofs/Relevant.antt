@@ -13,7 +13,7 @@ use Rattle.bitset.proofs.Members.{has-ones}
 use Rattle.bitset.proofs.Sets.{in-insert, in-and, in-minus, in-single, in-drop, minus-⊆}
 use Rattle.network.specs.declared.Network.{Network}
 use Rattle.network.specs.Record.{firstEnd, secondEnd, present}
-use Rattle.graph.specs.Paths.{Step, Leads, nodesFrom}
+use Rattle.graph.specs.Paths.{Hop, Leads, nodesFrom}
 use Rattle.graph.specs.Cuts.{without, RelevantEdge, RelevantNode}
 use Rattle.graph.specs.Reach.{reachOf, Bounded}
 use Rattle.graph.specs.Relevant.{edgesAt, past, pastAll, relevantNodes, relevantEdges}
@@ -29,7 +29,7 @@ module _ (N : Network) (B : Bounded N) where
   -- ---- past a node
 
   -- The walks without the edges at c from another node are the walks that avoid c.
-  without-node : (c : ℕ) (p : List Step) (u v : ℕ) → c ≢ u
+  without-node : (c : ℕ) (p : List Hop) (u v : ℕ) → c ≢ u
       → Leads (without N (edgesAt N c)) u p v ↔ (Leads N u p v × (List·Memᴰ c (nodesFrom u p) → ⊥))
   without-node c p u v ne =
       let h : ℕ = present N ∖ edgesAt N c in
@@ -120,7 +120,7 @@ module _ (N : Network) (B : Bounded N) where
   -- ---- the relevant nodes
 
   -- A walk from a node below the node count meets no other number.
-  nodes-lt : (p : List Step) (u v : ℕ) → Leads N u p v → u < N .nodes → (x : ℕ) → List·Memᴰ x (nodesFrom u p) → x < N .nodes
+  nodes-lt : (p : List Hop) (u v : ℕ) → Leads N u p v → u < N .nodes → (x : ℕ) → List·Memᴰ x (nodesFrom u p) → x < N .nodes
   nodes-lt p u v h l = carried N (λ x. x < N .nodes) p u v h (λ e i x y j k. B .ends e x y j) l
 
 module _ (N : Network) (S : Sound N) where

@@ -4,11 +4,11 @@ use mathlib.Core.Path.{_≡_, refl, sym, _∙_}
 use mathlib.Core.List.{List, [], _∷_, List·Memᴰ, List·Memᴰ·head, List·Memᴰ·not-nil, List·Memᴰ·eq-of-singleton}
 use mathlib.Core.Logic.{inl, inr, ⊎-elim, _↔_, _≢_, Ne·symm}
 use Prim.Native.Nat.{ℕ}
-use Rattle.lists.specs.Distinct.{Distinct}
+use Rattle.sequences.specs.Distinct.{Distinct}
 use Rattle.bitset.specs.Members.{_∈_}
 use Rattle.network.specs.declared.Network.{Network}
 use Rattle.network.specs.Record.{firstEnd, secondEnd, present}
-use Rattle.graph.specs.Paths.{Joins, Step, Leads, nodesFrom, Simple, edgesOf}
+use Rattle.graph.specs.Paths.{Joins, Hop, Leads, nodesFrom, Simple, edgesOf}
 use Rattle.graph.specs.Cuts.{RelevantEdge, RelevantNode}
 use Rattle.graph.proofs.Walks.{edges-nil, edges-cons, joins-sym, joins-ends, ends-met, edges-present}
 use Rattle.graph.proofs.EdgeSets.{joins-stored}
@@ -21,7 +21,7 @@ module _ (N : Network) where
   relevant-present e (r, (m, i)) = minpath-present N r m e i
 
   -- A loop, an edge with both ends at one node, is on no simple path.
-  no-loop : (p : List Step) (u v e x : ℕ) → Leads N u p v → Simple u p → e ∈ edgesOf p → Joins N e x x → ⊥
+  no-loop : (p : List Hop) (u v e x : ℕ) → Leads N u p v → Simple u p → e ∈ edgesOf p → Joins N e x x → ⊥
   unfolding Leads Distinct
   no-loop [] u v e x h simple m j = edges-nil e m
   no-loop (s ∷ p) u v e x h simple m j =
@@ -38,7 +38,7 @@ module _ (N : Network) where
   direct : (e : ℕ) → Joins N e (N .source) (N .sink) → N .source ≢ N .sink → RelevantEdge N e
   unfolding Leads Distinct
   direct e j ne =
-      let p : List Step = record { edge = e; to = N .sink } ∷ [] in (
+      let p : List Hop = record { edge = e; to = N .sink } ∷ [] in (
         edgesOf p,
         (
           record {
@@ -75,7 +75,7 @@ module _ (N : Network) where
   )
 
   -- A simple path over relevant nodes takes relevant edges.
-  pub path-relevant : (p : List Step) (u v : ℕ) → Leads N u p v → Simple u p
+  pub path-relevant : (p : List Hop) (u v : ℕ) → Leads N u p v → Simple u p
       → ((x : ℕ) → List·Memᴰ x (nodesFrom u p) → RelevantNode N x) → (e : ℕ) → e ∈ edgesOf p → RelevantEdge N e
   path-relevant p u v h simple on e m =
       let a : ℕ = firstEnd N e in

@@ -5,9 +5,9 @@ use mathlib.Core.List.{List, [], _∷_, _++_, List·Memᴰ, List·Memᴰ·head, 
 use mathlib.Core.Logic.{_⊎_, inl, inr, ⊎-swap, _↔_, _≢_, Ne·symm}
 use Prim.Native.Nat.{ℕ}
 use native.Mathlib.Decide.{ℕ-discrete}
-use Rattle.lists.specs.Distinct.{Distinct}
+use Rattle.sequences.specs.Distinct.{Distinct}
 use Rattle.network.specs.declared.Network.{Network}
-use Rattle.graph.specs.Paths.{Joins, Step, Leads, nodesFrom, Simple, edgesOf}
+use Rattle.graph.specs.Paths.{Joins, Hop, Leads, nodesFrom, Simple, edgesOf}
 use Rattle.graph.specs.Cuts.{OnMinpath, RelevantEdge, RelevantNode}
 use Rattle.graph.proofs.Walks.{mem-dec, nodes-append, simple-append, back, joins-sym, end-met, ends-met, leads-append, leads-back, nodes-back, split, shorten}
 use Rattle.graph.proofs.Minpaths.{walk-minpath}
@@ -15,7 +15,7 @@ use Rattle.graph.proofs.Detours.{led-through}
 
 -- A walk from v to source or sink that does not meet c.
 pub record Escapes (N : Network) (c v : ℕ) : Type 0 where
-  pub steps : List Step
+  pub steps : List Hop
   pub end : ℕ
   pub terminal : (end ≡ N .source) ⊎ (end ≡ N .sink)
   pub leads : Leads N v steps end
@@ -37,7 +37,7 @@ module _ (N : Network) where
   stays c v t ne = record { steps = []; end = v; terminal = t; leads = refl; avoids = λ m. ne (List·Memᴰ·eq-of-singleton m) }
 
   -- On a path from source over v to sink another node stands on one side of v at most.
-  escapes-along : (p : List Step) (c v : ℕ) → Leads N (N .source) p (N .sink) → Simple (N .source) p
+  escapes-along : (p : List Hop) (c v : ℕ) → Leads N (N .source) p (N .sink) → Simple (N .source) p
       → List·Memᴰ v (nodesFrom (N .source) p) → c ≢ v → Escapes N c v
   escapes-along p c v h simple m ne =
       let k = split N p (N .source) (N .sink) v h m in
@@ -77,7 +77,7 @@ module _ (N : Network) where
       (edgesOf (q .0), (record { steps = q .0; leads = q .1; simple = q .2; members = refl }, q .3))
 
   -- A walk that avoids c, before an escape past c, is an escape past c.
-  escapes-first : (c : ℕ) (p : List Step) (u v : ℕ) → Leads N u p v → (List·Memᴰ c (nodesFrom u p) → ⊥)
+  escapes-first : (c : ℕ) (p : List Hop) (u v : ℕ) → Leads N u p v → (List·Memᴰ c (nodesFrom u p) → ⊥)
       → Escapes N c v → Escapes N c u
   escapes-first c p u v h off k = record {
     steps = p ++ k .steps;
@@ -92,7 +92,7 @@ module _ (N : Network) where
 
   -- If v escapes past every other node, then each node of a simple path to v escapes past the one before, so that all lie on
   -- minpaths' paths if the first does.
-  relevant-along : (p : List Step) (u v : ℕ) → Leads N u p v → Simple u p → ((c : ℕ) → c ≢ v → Escapes N c v)
+  relevant-along : (p : List Hop) (u v : ℕ) → Leads N u p v → Simple u p → ((c : ℕ) → c ≢ v → Escapes N c v)
       → OnMinpath N u → OnMinpath N v
   unfolding Leads Distinct
   relevant-along [] u v h simple k on = rw h at on
@@ -103,7 +103,7 @@ module _ (N : Network) where
       relevant-along p (s .to) v (h .1) (simple .1) k (end-on-minpath (s .edge) (s .to) u edge (joins-sym N (s .edge) u (s .to) (h .0)))
 
   -- An escape past one of the two terminals ends at the other.
-  escapes-to : (a b v : ℕ) (k : Escapes N a v) → (k .end ≡ a) ⊎ (k .end ≡ b) → (p : List Step) × Leads N v p b
+  escapes-to : (a b v : ℕ) (k : Escapes N a v) → (k .end ≡ a) ⊎ (k .end ≡ b) → (p : List Hop) × Leads N v p b
   escapes-to a b v k (inl e) = absurd (k .avoids (Memᴰ·cast (sym e) (end-met N (k .steps) v (k .end) (k .leads))))
   escapes-to a b v k (inr e) = (k .steps, rw e at (k .leads))
 

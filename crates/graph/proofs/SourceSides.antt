@@ -10,7 +10,7 @@ use Rattle.bitset.proofs.Sets.{∈-dec, in-minus}
 use Rattle.network.specs.Record.{present}
 use Rattle.network.specs.declared.Network.{Network}
 use Rattle.graph.specs.Reach.{Bounded}
-use Rattle.graph.specs.Paths.{Joins, Step, Leads, nodesFrom, edgesOf, Minpath}
+use Rattle.graph.specs.Paths.{Joins, Hop, Leads, nodesFrom, edgesOf, Minpath}
 use Rattle.graph.specs.Cuts.{Cut, Mincut, RelevantEdge, RelevantNode, OnSourceSide}
 use Rattle.graph.specs.SourceSides.{Inside, Beyond, SourceSide, Crosses, Boundary}
 use Rattle.graph.proofs.Walks.{reached, edges-nil, edges-cons, edges-append, nodes-append, joins-sym, joins-ends, end-met, ends-met, leads-append, split, shorten, edges-present, leads-only}
@@ -23,17 +23,17 @@ use Rattle.graph.proofs.RelevantEdges.{path-relevant}
 -- ---- where a walk leaves a set
 
 -- The last step of the walk p from u to v that leaves s: along `edge`, and on outside s by `rest`.
-record LastCrossing (N : Network) (s u : ℕ) (p : List Step) (v : ℕ) : Type 0 where
+record LastCrossing (N : Network) (s u : ℕ) (p : List Hop) (v : ℕ) : Type 0 where
   edge : ℕ
   takes : edge ∈ edgesOf p
   crossing : Crosses N s edge
-  rest : List Step
+  rest : List Hop
   leads : Leads N (crossing .far) rest v
   stays : (x : ℕ) → List·Memᴰ x (nodesFrom (crossing .far) rest) → List·Memᴰ x (nodesFrom u p) × (x ∈ s → ⊥)
 
 module _ (N : Network) (s : ℕ) where
   -- A walk stays outside s, or leaves it for the last time, if it ends outside.
-  outside-or-crosses : (p : List Step) (u v : ℕ) → Leads N u p v → (v ∈ s → ⊥)
+  outside-or-crosses : (p : List Hop) (u v : ℕ) → Leads N u p v → (v ∈ s → ⊥)
       → ((x : ℕ) → List·Memᴰ x (nodesFrom u p) → x ∈ s → ⊥) ⊎ LastCrossing N s u p v
   unfolding Leads
   outside-or-crosses [] u v h out = inl (λ x m i. out (rw (List·Memᴰ·eq-of-singleton m ∙ h) at i))
@@ -61,14 +61,14 @@ module _ (N : Network) (s : ℕ) where
           inl (λ x m. elim (List·Memᴰ·cases-cons m) [ inl e ↦ λ i. n (rw e at i) | inr m′ ↦ off x m′ ])
 
   -- A walk from a node of s to one outside leaves s.
-  last-crossing : (p : List Step) (u v : ℕ) → Leads N u p v → u ∈ s → (v ∈ s → ⊥) → LastCrossing N s u p v
+  last-crossing : (p : List Hop) (u v : ℕ) → Leads N u p v → u ∈ s → (v ∈ s → ⊥) → LastCrossing N s u p v
   last-crossing p u v h i out =
       elim (outside-or-crosses p u v h out) [ inl off ↦ absurd (off u (List·Memᴰ·head refl) i) | inr l ↦ l ]
 
 -- ---- from a source side to its mincut
 
 -- No walk from source to sink avoids a cut.
-cut-meets-walk : (N : Network) (d : ℕ) → Cut N d → (p : List Step) → Leads N (N .source) p (N .sink)
+cut-meets-walk : (N : Network) (d : ℕ) → Cut N d → (p : List Hop) → Leads N (N .source) p (N .sink)
     → ((e : ℕ) → e ∈ edgesOf p → e ∈ d → ⊥) → ⊥
 cut-meets-walk N d cut p h off =
     cut-connected N d .0 cut .1 (
@@ -91,7 +91,7 @@ module _ (N : Network) (s c : ℕ) (side : SourceSide N s) (boundary : Boundary 
       )
 
   -- A walk that stays inside s, or stays outside, takes no edge of the boundary.
-  one-sided-uncut : (p : List Step) (u v : ℕ) → Leads N u p v
+  one-sided-uncut : (p : List Hop) (u v : ℕ) → Leads N u p v
       → ((x y : ℕ) → List·Memᴰ x (nodesFrom u p) → List·Memᴰ y (nodesFrom u p) → x ∈ s → y ∈ s)
       → (e : ℕ) → e ∈ edgesOf p → e ∈ c → ⊥
   one-sided-uncut p u v h same e m i =
@@ -109,7 +109,7 @@ module _ (N : Network) (s c : ℕ) (side : SourceSide N s) (boundary : Boundary 
       let far : Beyond N s (k .far) = (end-relevant N e (k .far) (k .near) (b .0) back-over, k .far-out) in
       let p = side .inside (N .source) (k .near) (side .source) (k .near-in) in
       let q = side .outside (k .far) (N .sink) far (inr (inl refl), side .sink) in
-      let step : Step = record { edge = e; to = k .far } in
+      let step : Hop = record { edge = e; to = k .far } in
       cut-meets-walk N d cut (p .steps ++ step ∷ q .steps)
       (leads-append N (p .steps) (step ∷ q .steps) (N .source) (k .near) (N .sink) (p .leads) (k .joins, q .leads))
       (λ f m j. elim (edges-append (p .steps) (step ∷ q .steps) f .0 m) [
@@ -172,7 +172,7 @@ module _ (N : Network) (B : Bounded N) (s c : ℕ) (mincut : Mincut N c) (on : (
   unfolding Leads
   goes-on e x y j r off i =
       let o = on x .0 i in
-      let step : List Step = record { edge = e; to = y } ∷ [] in
+      let step : List Hop = record { edge = e; to = y } ∷ [] in
       on y .1 (record {
         relevant = end-relevant N e y x r (joins-sym N e x y j);
         steps = o .steps ++ step;
@@ -208,7 +208,7 @@ module _ (N : Network) (B : Bounded N) (s c : ℕ) (mincut : Mincut N c) (on : (
       })
 
   -- Where the first part of a minpath's path leaves the source side for the last time, it takes an edge of c and goes on outside.
-  leaves-by-cut : (r : ℕ) (m : Minpath N r) (p q : List Step) (v : ℕ) → p ++ q ≡ m .steps → (l : LastCrossing N s (N .source) p v)
+  leaves-by-cut : (r : ℕ) (m : Minpath N r) (p q : List Hop) (v : ℕ) → p ++ q ≡ m .steps → (l : LastCrossing N s (N .source) p v)
       → (l .edge ∈ r) × (l .edge ∈ c) × Inside N (Beyond N s) (l .crossing .far) v
   leaves-by-cut r m p q v whole l =
       let i : l .edge ∈ r = rw (← m .members, ← whole) (edges-append p q (l .edge) .1 (inl (l .takes))) in (

@@ -5,14 +5,14 @@ use mathlib.Core.List.{List, [], _∷_, _++_, map, map-append, List·Memᴰ, Lis
 use mathlib.Core.Logic.{_⊎_, inl, inr, ⊎-swap, ⊎-map, _↔_, Iff·rfl}
 use Prim.Native.Nat.{ℕ}
 use native.Mathlib.Decide.{ℕ-discrete}
-use Rattle.lists.specs.Distinct.{Distinct}
-use Rattle.lists.proofs.Distinct.{distinct-append}
+use Rattle.sequences.specs.Distinct.{Distinct}
+use Rattle.sequences.proofs.Distinct.{distinct-append}
 use Rattle.bitset.specs.Members.{_⊆_, _∈_}
 use Rattle.bitset.proofs.Members.{has-zero}
 use Rattle.bitset.proofs.Sets.{in-insert}
 use Rattle.network.specs.Record.{present}
 use Rattle.network.specs.declared.Network.{Network}
-use Rattle.graph.specs.Paths.{Joins, Step, Leads, nodesFrom, Simple, edgesOf}
+use Rattle.graph.specs.Paths.{Joins, Hop, Leads, nodesFrom, Simple, edgesOf}
 use Rattle.graph.specs.Cuts.{only}
 
 -- ---- lists of nodes
@@ -30,12 +30,12 @@ mem-dec x (y ∷ l) = go (ℕ-discrete x y) (mem-dec x l)
 -- ---- the edges and nodes of a list of steps
 
 -- The edges that the steps take, in order.
-abbrev pub taken : List Step → List ℕ
-taken p = map (λ (s : Step). s .edge) p
+abbrev pub taken : List Hop → List ℕ
+taken p = map (λ (s : Hop). s .edge) p
 
 -- The nodes that the steps go to, in order.
-abbrev pub reached : List Step → List ℕ
-reached p = map (λ (s : Step). s .to) p
+abbrev pub reached : List Hop → List ℕ
+reached p = map (λ (s : Hop). s .to) p
 
 -- No steps take no edge.
 pub edges-nil : (e : ℕ) → e ∈ edgesOf [] → ⊥
@@ -43,12 +43,12 @@ unfolding edgesOf
 edges-nil e m = rw (has-zero e) at m
 
 -- One step more takes one edge more.
-pub edges-cons : (s : Step) (p : List Step) (e : ℕ) → (e ∈ edgesOf (s ∷ p)) ↔ ((e ∈ edgesOf p) ⊎ (e ≡ s .edge))
+pub edges-cons : (s : Hop) (p : List Hop) (e : ℕ) → (e ∈ edgesOf (s ∷ p)) ↔ ((e ∈ edgesOf p) ⊎ (e ≡ s .edge))
 unfolding edgesOf
 edges-cons s p e = in-insert (edgesOf p) (s .edge) e
 
 -- The members of the edge set are the edges that the steps take.
-pub in-edgesOf : (p : List Step) (e : ℕ) → (e ∈ edgesOf p) ↔ List·Memᴰ e (taken p)
+pub in-edgesOf : (p : List Hop) (e : ℕ) → (e ∈ edgesOf p) ↔ List·Memᴰ e (taken p)
 in-edgesOf [] e = (λ m. absurd (edges-nil e m), λ m. absurd (List·Memᴰ·not-nil m))
 in-edgesOf (s ∷ p) e = (
   λ m. elim (edges-cons s p e .0 m) [ inl m′ ↦ List·Memᴰ·tail (in-edgesOf p e .0 m′) | inr q ↦ List·Memᴰ·head q ],
@@ -56,9 +56,9 @@ in-edgesOf (s ∷ p) e = (
 )
 
 -- The edges of joined steps are those of both parts.
-pub edges-append : (p q : List Step) (e : ℕ) → (e ∈ edgesOf (p ++ q)) ↔ ((e ∈ edgesOf p) ⊎ (e ∈ edgesOf q))
+pub edges-append : (p q : List Hop) (e : ℕ) → (e ∈ edgesOf (p ++ q)) ↔ ((e ∈ edgesOf p) ⊎ (e ∈ edgesOf q))
 edges-append p q e =
-    let same = map-append (λ (s : Step). s .edge) p q in (
+    let same = map-append (λ (s : Hop). s .edge) p q in (
       λ m. ⊎-map (in-edgesOf p e .1) (in-edgesOf q e .1) (List·Memᴰ·append-cases (taken p) (rw same at (in-edgesOf (p ++ q) e .0 m))),
       λ c. in-edgesOf (p ++ q) e .1 (rw same (elim c [
         | inl m ↦ Memᴰ·append-left (taken q) (in-edgesOf p e .0 m)
@@ -67,38 +67,38 @@ edges-append p q e =
     )
 
 -- Steps that are all among others take no further edge.
-pub edges-within : (p q : List Step) → ((s : Step) → List·Memᴰ s p → List·Memᴰ s q) → edgesOf p ⊆ edgesOf q
+pub edges-within : (p q : List Hop) → ((s : Hop) → List·Memᴰ s p → List·Memᴰ s q) → edgesOf p ⊆ edgesOf q
 edges-within p q h e m =
-    let r = Memᴰ·of-map (λ (s : Step). s .edge) p (in-edgesOf p e .0 m) in
-    in-edgesOf q e .1 (Memᴰ·cast (sym (r .2)) (Memᴰ·map (λ (s : Step). s .edge) (h (r .0) (r .1))))
+    let r = Memᴰ·of-map (λ (s : Hop). s .edge) p (in-edgesOf p e .0 m) in
+    in-edgesOf q e .1 (Memᴰ·cast (sym (r .2)) (Memᴰ·map (λ (s : Hop). s .edge) (h (r .0) (r .1))))
 
 -- Steps that are all among others go to no further node.
-pub reached-within : (p q : List Step) → ((s : Step) → List·Memᴰ s p → List·Memᴰ s q)
+pub reached-within : (p q : List Hop) → ((s : Hop) → List·Memᴰ s p → List·Memᴰ s q)
     → (x : ℕ) → List·Memᴰ x (reached p) → List·Memᴰ x (reached q)
 reached-within p q h x m =
-    let r = Memᴰ·of-map (λ (s : Step). s .to) p m in
-    Memᴰ·cast (sym (r .2)) (Memᴰ·map (λ (s : Step). s .to) (h (r .0) (r .1)))
+    let r = Memᴰ·of-map (λ (s : Hop). s .to) p m in
+    Memᴰ·cast (sym (r .2)) (Memᴰ·map (λ (s : Hop). s .to) (h (r .0) (r .1)))
 
 -- The nodes of joined steps are those of the first part, and then those that the second goes to.
-pub nodes-append : (u : ℕ) (p q : List Step) → nodesFrom u (p ++ q) ≡ nodesFrom u p ++ reached q
-nodes-append u p q = rw (map-append (λ (s : Step). s .to) p q)
+pub nodes-append : (u : ℕ) (p q : List Hop) → nodesFrom u (p ++ q) ≡ nodesFrom u p ++ reached q
+nodes-append u p q = rw (map-append (λ (s : Hop). s .to) p q)
 
 -- Joined steps are simple exactly if the first part is, and the second goes to new nodes alone, to each once.
-pub simple-append : (u : ℕ) (p q : List Step)
+pub simple-append : (u : ℕ) (p q : List Hop)
     → Simple u (p ++ q) ↔ (Simple u p × Distinct (reached q) × ((y : ℕ) → List·Memᴰ y (nodesFrom u p) → List·Memᴰ y (reached q) → ⊥))
-simple-append u p q = rw (map-append (λ (s : Step). s .to) p q) (distinct-append (nodesFrom u p) (reached q))
+simple-append u p q = rw (map-append (λ (s : Hop). s .to) p q) (distinct-append (nodesFrom u p) (reached q))
 
 -- The steps that lead back along the steps p from u.
-unfoldable pub back : ℕ → List Step → List Step
+unfoldable pub back : ℕ → List Hop → List Hop
 back u [] = []
 back u (s ∷ p) = back (s .to) p ++ (record { edge = s .edge; to = u } ∷ [])
 
 -- The way back takes the same edges.
-pub edges-back : (p : List Step) (u e : ℕ) → (e ∈ edgesOf (back u p)) ↔ (e ∈ edgesOf p)
+pub edges-back : (p : List Hop) (u e : ℕ) → (e ∈ edgesOf (back u p)) ↔ (e ∈ edgesOf p)
 unfolding back
 edges-back [] u e = Iff·rfl
 edges-back (s ∷ p) u e =
-    let turned : Step = record { edge = s .edge; to = u } in
+    let turned : Hop = record { edge = s .edge; to = u } in
     let ih = edges-back p (s .to) e in (
       λ m. edges-cons s p e .1 (elim (edges-append (back (s .to) p) (turned ∷ []) e .0 m) [
         | inl m′ ↦ inl (ih .0 m′)
@@ -137,13 +137,13 @@ module _ (N : Network) where
       ]
 
   -- A walk meets the node that it leads to.
-  pub end-met : (p : List Step) (u v : ℕ) → Leads N u p v → List·Memᴰ v (nodesFrom u p)
+  pub end-met : (p : List Hop) (u v : ℕ) → Leads N u p v → List·Memᴰ v (nodesFrom u p)
   unfolding Leads
   end-met [] u v h = List·Memᴰ·head (sym h)
   end-met (s ∷ p) u v h = List·Memᴰ·tail (end-met p (s .to) v (h .1))
 
   -- A walk meets both ends of each edge that it takes.
-  pub ends-met : (p : List Step) (u v e x y : ℕ) → Leads N u p v → e ∈ edgesOf p → Joins N e x y → List·Memᴰ x (nodesFrom u p)
+  pub ends-met : (p : List Hop) (u v e x y : ℕ) → Leads N u p v → e ∈ edgesOf p → Joins N e x y → List·Memᴰ x (nodesFrom u p)
   unfolding Leads
   ends-met [] u v e x y h m j = absurd (edges-nil e m)
   ends-met (s ∷ p) u v e x y h m j =
@@ -156,13 +156,13 @@ module _ (N : Network) where
       ]
 
   -- A walk to v and a walk on from v make one walk.
-  pub leads-append : (p q : List Step) (u v w : ℕ) → Leads N u p v → Leads N v q w → Leads N u (p ++ q) w
+  pub leads-append : (p q : List Hop) (u v w : ℕ) → Leads N u p v → Leads N v q w → Leads N u (p ++ q) w
   unfolding Leads
   leads-append [] q u v w h k = rw h k
   leads-append (s ∷ p) q u v w h k = (h .0, leads-append p q (s .to) v w (h .1) k)
 
   -- A walk can be walked back.
-  pub leads-back : (p : List Step) (u v : ℕ) → Leads N u p v → Leads N v (back u p) u
+  pub leads-back : (p : List Hop) (u v : ℕ) → Leads N u p v → Leads N v (back u p) u
   unfolding Leads back
   leads-back [] u v h = sym h
   leads-back (s ∷ p) u v h =
@@ -170,13 +170,13 @@ module _ (N : Network) where
       (leads-back p (s .to) v (h .1)) (joins-sym (s .edge) u (s .to) (h .0), refl)
 
   -- The way back meets the same nodes.
-  pub nodes-back : (p : List Step) (u v x : ℕ) → Leads N u p v
+  pub nodes-back : (p : List Hop) (u v x : ℕ) → Leads N u p v
       → List·Memᴰ x (nodesFrom v (back u p)) ↔ List·Memᴰ x (nodesFrom u p)
   unfolding Leads back
   nodes-back [] u v x h = rw h (Iff·rfl)
   nodes-back (s ∷ p) u v x h =
       let ih = nodes-back p (s .to) v x (h .1) in
-      rw (map-append (λ (t : Step). t .to) (back (s .to) p) (record { edge = s .edge; to = u } ∷ [])) (
+      rw (map-append (λ (t : Hop). t .to) (back (s .to) p) (record { edge = s .edge; to = u } ∷ [])) (
         λ m. elim (List·Memᴰ·append-cases (nodesFrom v (back (s .to) p)) m) [
           | inl m′ ↦ List·Memᴰ·tail (ih .0 m′)
           | inr n ↦ List·Memᴰ·head (List·Memᴰ·eq-of-singleton n)
@@ -188,23 +188,23 @@ module _ (N : Network) where
       )
 
 -- The walk p from u to v in two parts: up to the node x, and on from it.
-pub record Split (N : Network) (u : ℕ) (p : List Step) (v x : ℕ) : Type 0 where
-  pub before : List Step
-  pub after : List Step
+pub record Split (N : Network) (u : ℕ) (p : List Hop) (v x : ℕ) : Type 0 where
+  pub before : List Hop
+  pub after : List Hop
   pub whole : before ++ after ≡ p
   pub leads-to : Leads N u before x
   pub leads-on : Leads N x after v
 
 -- The walk p from u to v freed of loops: a simple path that makes steps of p alone.
-pub record Shortened (N : Network) (u : ℕ) (p : List Step) (v : ℕ) : Type 0 where
-  pub steps : List Step
+pub record Shortened (N : Network) (u : ℕ) (p : List Hop) (v : ℕ) : Type 0 where
+  pub steps : List Hop
   pub leads : Leads N u steps v
   pub simple : Simple u steps
-  pub within : (s : Step) → List·Memᴰ s steps → List·Memᴰ s p
+  pub within : (s : Hop) → List·Memᴰ s steps → List·Memᴰ s p
 
 module _ (N : Network) where
   -- A walk splits at every node that it meets.
-  pub split : (p : List Step) (u v x : ℕ) → Leads N u p v → List·Memᴰ x (nodesFrom u p) → Split N u p v x
+  pub split : (p : List Hop) (u v x : ℕ) → Leads N u p v → List·Memᴰ x (nodesFrom u p) → Split N u p v x
   unfolding Leads
   split [] u v x h m =
       let e = List·Memᴰ·eq-of-singleton m in
@@ -224,12 +224,12 @@ module _ (N : Network) where
       ]
 
   -- What is left of a simple path from a node of it on is simple.
-  pub simple-after : (p q : List Step) (u v : ℕ) → Leads N u p v → Simple u (p ++ q) → Simple v q
+  pub simple-after : (p q : List Hop) (u v : ℕ) → Leads N u p v → Simple u (p ++ q) → Simple v q
   unfolding Distinct
   simple-after p q u v h d = let r = simple-append u p q .0 d in (r .2 v (end-met N p u v h), r .1)
 
   -- A walk contains a simple path with the same ends: loops are dropped from the end of the walk on.
-  pub shorten : (p : List Step) (u v : ℕ) → Leads N u p v → Shortened N u p v
+  pub shorten : (p : List Hop) (u v : ℕ) → Leads N u p v → Shortened N u p v
   unfolding Leads Distinct
   shorten [] u v h = record { steps = []; leads = h; simple = (List·Memᴰ·not-nil, tt); within = λ s m. m }
   shorten (s ∷ p) u v h = go (shorten p (s .to) v (h .1)) (mem-dec u (nodesFrom (s .to) (shorten p (s .to) v (h .1) .steps)))
@@ -253,14 +253,14 @@ module _ (N : Network) where
   -- ---- the walks of a part of a network
 
   -- A walk takes present edges alone.
-  pub edges-present : (p : List Step) (u v : ℕ) → Leads N u p v → edgesOf p ⊆ present N
+  pub edges-present : (p : List Hop) (u v : ℕ) → Leads N u p v → edgesOf p ⊆ present N
   unfolding Leads Joins
   edges-present [] u v h e m = absurd (edges-nil e m)
   edges-present (s ∷ p) u v h e m =
       elim (edges-cons s p e .0 m) [ inl m′ ↦ edges-present p (s .to) v (h .1) e m′ | inr q ↦ rw q (h .0 .0) ]
 
   -- A walk whose edges all lie in g is a walk of the network with the edges g.
-  pub leads-only : (g : ℕ) (p : List Step) (u v : ℕ) → Leads N u p v → edgesOf p ⊆ g → Leads (only N g) u p v
+  pub leads-only : (g : ℕ) (p : List Hop) (u v : ℕ) → Leads N u p v → edgesOf p ⊆ g → Leads (only N g) u p v
   unfolding Leads Joins only
   leads-only g [] u v h k = h
   leads-only g (s ∷ p) u v h k = (
@@ -270,12 +270,12 @@ module _ (N : Network) where
 
 module _ (N : Network) (h : ℕ) where
   -- A walk over edges of h is one over the edges of any larger set.
-  pub leads-mono : (g : ℕ) → h ⊆ g → (p : List Step) (u v : ℕ) → Leads (only N h) u p v → Leads (only N g) u p v
+  pub leads-mono : (g : ℕ) → h ⊆ g → (p : List Hop) (u v : ℕ) → Leads (only N h) u p v → Leads (only N g) u p v
   unfolding only
   leads-mono g l p u v w = leads-only (only N h) g p u v w (λ e m. l e (edges-present (only N h) p u v w e m))
 
   -- The walks over a set of present edges are the walks that take those alone.
-  pub leads-within : h ⊆ present N → (p : List Step) (u v : ℕ) → Leads (only N h) u p v ↔ (Leads N u p v × (edgesOf p ⊆ h))
+  pub leads-within : h ⊆ present N → (p : List Hop) (u v : ℕ) → Leads (only N h) u p v ↔ (Leads N u p v × (edgesOf p ⊆ h))
   unfolding only
   leads-within l p u v = (
     λ w. (leads-mono (present N) l p u v w, edges-present (only N h) p u v w),

@@ -8,7 +8,7 @@ use mathlib.Core.Bool.{Bool, true, false, not}
 use Prim.Native.Nat.{ℕ, _^_}
 use lib.Bits.{bitAnd}
 use lib.Dec.{eqb}
-use Rattle.lists.specs.Words.{every}
+use Rattle.sequences.specs.Words.{every}
 use Rattle.bitset.specs.Members.{has, _∖_, members}
 use Rattle.network.specs.Record.{present}
 use Rattle.network.specs.declared.Network.{Network}

@@ -15,7 +15,7 @@ use Prim.Native.Nat.{ℕ}
 use Rattle.bitset.specs.Members.{_⊆_, _∖_, _∈_}
 use Rattle.network.specs.Record.{present, rewired}
 use Rattle.network.specs.declared.Network.{Network}
-use Rattle.graph.specs.Paths.{Step, Leads, nodesFrom, edgesOf, Minpath}
+use Rattle.graph.specs.Paths.{Hop, Leads, nodesFrom, edgesOf, Minpath}
 
 unfoldable pub only : Network → ℕ → Network
 only N h = rewired N h (N .first) (N .second)
@@ -43,6 +43,6 @@ RelevantNode N v = (v ≡ N .source) ⊎ ((v ≡ N .sink) ⊎ OnMinpath N v)
 -- The walk takes relevant edges outside c alone.
 pub record OnSourceSide (N : Network) (c v : ℕ) : Type 0 where
   pub relevant : RelevantNode N v
-  pub steps : List Step
+  pub steps : List Hop
   pub leads : Leads N (N .source) steps v
   pub kept : (e : ℕ) → e ∈ edgesOf steps → RelevantEdge N e × (e ∈ c → ⊥)

@@ -8,7 +8,7 @@ use mathlib.Core.Logic.{_↔_}
 use mathlib.Core.Path.{_≡_}
 use Prim.Native.Nat.{ℕ, _<_}
 use lib.ListN.{length, getD}
-use Rattle.lists.specs.Distinct.{Distinct}
+use Rattle.sequences.specs.Distinct.{Distinct}
 use Rattle.bitset.specs.Members.{_∈_}
 use Rattle.network.specs.declared.Network.{Network}
 use Rattle.graph.specs.Cuts.{Mincut, OnSourceSide}

@@ -12,7 +12,7 @@ use mathlib.Core.Logic.{_⊎_, _↔_}
 use mathlib.Core.Path.{_≡_}
 use Prim.Native.Nat.{ℕ}
 use lib.Dec.{T}
-use Rattle.lists.specs.Distinct.{Distinct}
+use Rattle.sequences.specs.Distinct.{Distinct}
 use Rattle.bitset.specs.Members.{insert}
 use Rattle.network.specs.declared.Network.{Network}
 use Rattle.network.specs.Record.{hasEdge, firstEnd, secondEnd}
@@ -24,32 +24,32 @@ Joins N e u v =
     × (((firstEnd N e ≡ u) × (secondEnd N e ≡ v)) ⊎ ((firstEnd N e ≡ v) × (secondEnd N e ≡ u)))
 
 -- A step: along `edge`, to the node `to`.
-pub record Step : Type 0 where
+pub record Hop : Type 0 where
   pub edge : ℕ
   pub to : ℕ
 
-unfoldable pub Leads : Network → ℕ → List Step → ℕ → Type 0
+unfoldable pub Leads : Network → ℕ → List Hop → ℕ → Type 0
 Leads N u [] v = u ≡ v
 Leads N u (s ∷ p) v = Joins N (s .edge) u (s .to) × Leads N (s .to) p v
 
 -- The nodes that the steps p from u on meet.
-abbrev pub nodesFrom : ℕ → List Step → List ℕ
-nodesFrom u p = u ∷ map (λ (s : Step). s .to) p
+abbrev pub nodesFrom : ℕ → List Hop → List ℕ
+nodesFrom u p = u ∷ map (λ (s : Hop). s .to) p
 
-abbrev pub Simple : ℕ → List Step → Type 0
+abbrev pub Simple : ℕ → List Hop → Type 0
 Simple u p = Distinct (nodesFrom u p)
 
-unfoldable pub edgesOf : List Step → ℕ
-edgesOf p = foldr (λ (s : Step) (r : ℕ). insert r (s .edge)) 0 p
+unfoldable pub edgesOf : List Hop → ℕ
+edgesOf p = foldr (λ (s : Hop) (r : ℕ). insert r (s .edge)) 0 p
 
 pub record Minpath (N : Network) (r : ℕ) : Type 0 where
-  pub steps : List Step
+  pub steps : List Hop
   pub leads : Leads N (N .source) steps (N .sink)
   pub simple : Simple (N .source) steps
   pub members : edgesOf steps ≡ r
 
 abbrev pub Connected : Network → ℕ → ℕ → Type 0
-Connected N u v = (p : List Step) × Leads N u p v
+Connected N u v = (p : List Hop) × Leads N u p v
 
 abbrev pub SameMinpaths : Network → Network → Type 0
 SameMinpaths N M = (r : ℕ) → Minpath N r ↔ Minpath M r

@@ -11,11 +11,11 @@ use mathlib.Core.Logic.{_↔_}
 use Prim.Native.Nat.{ℕ}
 use Rattle.bitset.specs.Members.{_∈_}
 use Rattle.network.specs.declared.Network.{Network}
-use Rattle.graph.specs.Paths.{Joins, Step, Leads, nodesFrom}
+use Rattle.graph.specs.Paths.{Joins, Hop, Leads, nodesFrom}
 use Rattle.graph.specs.Cuts.{RelevantEdge, RelevantNode}
 
 pub record Inside (N : Network) (P : ℕ → Type 0) (u v : ℕ) : Type 0 where
-  pub steps : List Step
+  pub steps : List Hop
   pub leads : Leads N u steps v
   pub stays : (x : ℕ) → List·Memᴰ x (nodesFrom u steps) → P x
 

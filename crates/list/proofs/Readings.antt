@@ -10,7 +10,7 @@ use lib.Signed.{ltZ}
 use Rattle.io.specs.Counts.{clamped}
 use Rattle.list.specs.declared.Input.{Input}
 use Rattle.list.specs.declared.Input.the-variants.{Read, Failed}
-use Rattle.list.specs.Reading.{inputOf, Within}
+use Rattle.list.specs.Reading.{inputOf, Counted}
 
 -- A negative answer is a failure. (The machine reads it back from its bits as z.)
 pub input-failed : {z : ℤ} (got : ℤ) (n : ℕ) → z ≡ got → ltZ z (pos 0) ≡ true → Failed ≡ inputOf got n
@@ -29,9 +29,9 @@ input-read got n {r} e t c = go got (rw e at t) (rw e at c)
     go (negsuc k) t c = absurd (true≢false t)
 
 -- No answer counts more than the room.
-pub input-within : (got : ℤ) (n : ℕ) {r : Input} → r ≡ inputOf got n → Within n r
+pub input-within : (got : ℤ) (n : ℕ) {r : Input} → r ≡ inputOf got n → Counted n r
 input-within got n e = rw e (go got)
   where
-    go : (got : ℤ) → Within n (inputOf got n)
+    go : (got : ℤ) → Counted n (inputOf got n)
     go (pos k) = omega arith
     go (negsuc k) = tt

@@ -1,7 +1,7 @@
 -- What reading came to.
 --
 --   inputOf got n    what a read into n bytes came to that answered got: it failed if that is negative
---   Within n r       the answer r counts at most n bytes, or says that a read failed
+--   Counted n r       the answer r counts at most n bytes, or says that a read failed
 use Prim.Native.Nat.{ℕ, _≤_, min}
 use lib.IntN.{ℤ, pos, negsuc}
 use Rattle.list.specs.declared.Input.{Input}
@@ -11,6 +11,6 @@ abbrev pub inputOf : ℤ → ℕ → Input
 inputOf (pos k) n = Read (min k n)
 inputOf (negsuc k) n = Failed
 
-abbrev pub Within : ℕ → Input → Type 0
-Within n (Read count) = count ≤ n
-Within n Failed = Unit {0}
+abbrev pub Counted : ℕ → Input → Type 0
+Counted n (Read count) = count ≤ n
+Counted n Failed = Unit {0}

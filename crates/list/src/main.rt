@@ -10,7 +10,7 @@ use report::DECIDING;
 use text::MAX_TEXT;
 ghost use mathlib.Core.Path.{_≡_};
 ghost use lib.ListN.{length};
-ghost use Rattle.list.specs.Reading.{inputOf, Within};
+ghost use Rattle.list.specs.Reading.{inputOf, Counted};
 
 // What reading came to: so many bytes, or a read failed.
 enum Input {
@@ -30,7 +30,7 @@ fn input_of(got: isize, room: &[u8]) -> Input
 
 // One read of standard input into the lent bytes. A count of 0 is the end of the input.
 fn read_once(room: &mut [u8]) -> Input
-    ensures { λ r. ⌜ Within (length (now (room .exit))) r ⌝ }
+    ensures { λ r. ⌜ Counted (length (now (room .exit))) r ⌝ }
 {
     let got = libc::read(STDIN_FILENO, room);
     input_of(got, room)
@@ -38,7 +38,7 @@ fn read_once(room: &mut [u8]) -> Input
 
 // Reads standard input into the lent bytes, until they are full or the input ends.
 fn fill(room: &mut [u8]) -> Input
-    ensures { λ r. ⌜ Within (length (now (room .exit))) r ⌝ }
+    ensures { λ r. ⌜ Counted (length (now (room .exit))) r ⌝ }
 {
     let mut read = 0;
     while read < room.len() {
@@ -56,7 +56,7 @@ fn fill(room: &mut [u8]) -> Input
 
 // Reads the first bytes of standard input, as many as decide any plan.
 fn read_plan(plan: &mut [u8; DECIDING]) -> Input
-    ensures { λ r. ⌜ Within (length (now (plan .exit))) r ⌝ }
+    ensures { λ r. ⌜ Counted (length (now (plan .exit))) r ⌝ }
 {
     fill(plan)
 }

@@ -7,13 +7,13 @@ use native.Mathlib.Omega.{arith}
 use borrow.Rule.Slice.PartMut.{putMid}
 use lib.ListN.{length, take, length-map}
 use lib.Seq.{sets}
-use Rattle.lists.specs.Words.{onto}
+use Rattle.sequences.specs.Words.{onto}
 use Rattle.network.specs.declared.Network.{Network}
 use Rattle.network.specs.Record.{faultOf, Stored}
 use Rattle.network.proofs.Refusals.{refused-some}
 use Rattle.listing.specs.Sorted.{Sorted}
 use Rattle.graph.proofs.Sound.{Sound, accepted-sound}
-use Rattle.cuts.specs.Enumeration.{Row, cutsOf, sidesOf, rows}
+use Rattle.branches.specs.Enumeration.{Row, cutsOf, sidesOf, rows}
 use Rattle.listing.specs.declared.Listed.{Listed}
 use Rattle.listing.specs.List.{mincuts, sourceSides, listRefusal, listedBy, cutRowsAfter, sideRowsAfter}
 use Rattle.listing.proofs.Rows.{rows-paired, mincuts-count, sorted-mincuts, sorted-sides}

@@ -6,11 +6,11 @@ use mathlib.Core.Logic.{_↔_, Iff·trans, Iff·symm}
 use Prim.Native.Nat.{ℕ, _≤_, _<_}
 use native.Mathlib.Nat.{lt-trans, lt-of-lt-of-le}
 use lib.ListN.{length, getD, drop, length-map, List·getD-append}
-use Rattle.lists.proofs.Words.{getD-onto}
-use Rattle.lists.specs.Words.{onto}
-use Rattle.lists.proofs.Places.{mem-place, getD-map}
-use Rattle.lists.proofs.Rising.{rising-places}
-use Rattle.lists.proofs.Distinct.{rising-distinct, distinct-at-most}
+use Rattle.sequences.proofs.Words.{getD-onto}
+use Rattle.sequences.specs.Words.{onto}
+use Rattle.sequences.proofs.Places.{mem-place, getD-map}
+use Rattle.sequences.proofs.Rising.{rising-places}
+use Rattle.sequences.proofs.Distinct.{rising-distinct, distinct-at-most}
 use Rattle.network.specs.declared.Network.{Network}
 use Rattle.network.specs.Record.{Stored, faultOf}
 use Rattle.graph.specs.Reach.{Bounded}

@@ -9,9 +9,9 @@ use native.Mathlib.Bridge.{le-prop}
 use native.Mathlib.Nat.{lt-of-le-of-lt}
 use denote.Floats.{passes}
 use lib.Dec.{T}
-use Rattle.lists.proofs.Words.{mem-passing, passing-rising}
-use Rattle.lists.specs.Words.{passing}
-use Rattle.lists.specs.Rising.{Rising}
+use Rattle.sequences.proofs.Words.{mem-passing, passing-rising}
+use Rattle.sequences.specs.Words.{passing}
+use Rattle.sequences.specs.Rising.{Rising}
 use Rattle.bitset.specs.Members.{subsets}
 use Rattle.bitset.proofs.Subsets.{subset-le, mem-subsets, subsets-rising}
 use Rattle.network.specs.Record.{present}
@@ -24,8 +24,8 @@ use Rattle.graph.specs.Relevant.{sourceSideOf}
 use Rattle.graph.proofs.Cuts.{mincutTest-iff, mincut-none}
 use Rattle.graph.proofs.Sound.{Sound}
 use Rattle.graph.proofs.Correspondence.{side-of-mincut, side-none}
-use Rattle.cuts.specs.Lists.{Lists}
-use Rattle.cuts.proofs.Lists.{lists-unique}
+use Rattle.branches.specs.Lists.{Lists}
+use Rattle.branches.proofs.Lists.{lists-unique}
 use Rattle.listing.specs.List.{mincuts, sourceSides}
 
 -- ---- the complete list

@@ -7,7 +7,7 @@ use native.Mathlib.Nat.{zero-add, sub-zero}
 use borrow.Rule.Slice.PartMut.{putMid}
 use lib.ListN.{length, take, drop}
 use lib.Seq.{sets, sets-eq, take-at, drop-at, length-take-le}
-use Rattle.lists.specs.Words.{onto}
+use Rattle.sequences.specs.Words.{onto}
 
 module _ (l lent : List ℕ) (fits : length l ≤ length lent) where
   -- To store a list from the first row on is to write it onto the rows.

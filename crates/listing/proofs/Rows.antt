@@ -8,16 +8,16 @@ use native.Mathlib.Nat.{ℕ-set}
 use native.Mathlib.Omega.{arith}
 use lib.ListN.{length, getD, length-map}
 use lib.Seq.{ext-getD}
-use Rattle.lists.proofs.Places.{getD-map, perm-length}
+use Rattle.sequences.proofs.Places.{getD-map, perm-length}
 use Rattle.network.specs.declared.Network.{Network}
 use Rattle.listing.specs.Sorted.{Sorted}
 use Rattle.listing.proofs.Order.{sorted-unique, sorted-beside}
 use Rattle.graph.specs.Relevant.{sourceSideOf}
 use Rattle.graph.proofs.Sound.{Sound}
-use Rattle.cuts.specs.Enumeration.{Row, cutsOf, sidesOf, rows}
-use Rattle.cuts.specs.Lists.{Lists}
-use Rattle.cuts.proofs.Complete.{in-rows, in-cuts, cuts-once}
-use Rattle.lists.proofs.Distinct.{distinct-nodup}
+use Rattle.branches.specs.Enumeration.{Row, cutsOf, sidesOf, rows}
+use Rattle.branches.specs.Lists.{Lists}
+use Rattle.branches.proofs.Complete.{in-rows, in-cuts, cuts-once}
+use Rattle.sequences.proofs.Distinct.{distinct-nodup}
 use Rattle.listing.specs.List.{mincuts, sourceSides}
 use Rattle.listing.proofs.Mincuts.{mincuts-lists}
 

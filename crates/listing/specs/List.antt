@@ -13,7 +13,7 @@ use mathlib.Core.Path.{_≡_}
 use Prim.Native.Nat.{ℕ}
 use lib.Dec.{ltb, eqb}
 use lib.ListN.{length}
-use Rattle.lists.specs.Words.{passing, onto}
+use Rattle.sequences.specs.Words.{passing, onto}
 use Rattle.bitset.specs.Members.{subsets}
 use Rattle.network.specs.declared.Network.{Network}
 use Rattle.network.specs.Record.{_when_, _then_, unlessRefused, faultOf, Stored, present}

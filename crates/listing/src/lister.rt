@@ -14,7 +14,7 @@ ghost use lib.Dec.{ltb};
 ghost use lib.ListN.{length};
 ghost use Rattle.network.specs.Record.{faultOf};
 ghost use Rattle.graph.specs.Relevant.{relevantNodes, relevantEdges};
-ghost use Rattle.cuts.specs.Enumeration.{rows};
+ghost use Rattle.branches.specs.Enumeration.{rows};
 ghost use Rattle.listing.specs.List.{listedBy, cutRowsAfter, sideRowsAfter, ListMeans};
 
 // Whether so many rows suffice for every network with so many relevant nodes: they have at most 2 ^ (nodes - 2) mincuts.
@@ -52,7 +52,7 @@ pub fn list(network: Network, cuts: &mut [u64], sides: &mut [u32]) -> Listed
         × (now (sides .exit) ≡ sideRowsAfter network (now (cuts .entry)) (now (sides .entry))) ⌝ }
     ensures means { λ r. ⌜ ListMeans network (now (cuts .entry)) (now (sides .entry)) (r .refusal) (r .count) (now (cuts .exit)) (now (sides .exit)) ⌝ }
 {
-    let part = reach::relevant(network);
+    let part = connectivity::relevant(network);
     let refusal = part.refusal;
     if refusal != 0 {
         return Listed { refusal, count: 0 };

@@ -5,7 +5,7 @@ use mathlib.Core.List.{foldr, map}
 use mathlib.Core.Path.{_≡_}
 use Prim.Native.Nat.{ℕ, zero, suc}
 use lib.Dec.{T, ltb}
-use Rattle.lists.specs.Words.{range}
+use Rattle.sequences.specs.Words.{range}
 use Rattle.network.specs.declared.Network.{Network}
 use Rattle.network.specs.Record.{_when_, _then_, among, sizeFault, terminalFault, endFault, absentFault, hasEdge, firstEnd, secondEnd, slotFault, slotsFault, recordRefusals, faultOf}
 use Rattle.network.proofs.Refusals.{then-among, when-among, pair-among}

@@ -8,7 +8,7 @@ use Prim.Native.Nat.{ℕ, zero, suc, _≤_, _<_}
 use native.Mathlib.Omega.{arith}
 use borrow.Author.Tests.{ltb-false, leb-false, eqb-false}
 use lib.Dec.{T, leb, ltb, eqb}
-use Rattle.lists.proofs.Tests.{T-or}
+use Rattle.sequences.proofs.Tests.{T-or}
 use Rattle.network.specs.Record.{_when_, _then_, among, unlessRefused, sizeFault, pairFault}
 
 -- Two rules in a row find no fault exactly if neither does.

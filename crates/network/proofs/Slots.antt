@@ -9,7 +9,7 @@ use native.Mathlib.Omega.{arith}
 use lib.ListN.{length-set}
 use lib.Seq.{getD-set-same, getD-set-other}
 use borrow.Author.Tests.{eq-eqb, ne-eqb}
-use Rattle.lists.specs.Words.{range}
+use Rattle.sequences.specs.Words.{range}
 use Rattle.bitset.proofs.Members.{has-insert, insert-lt}
 use Rattle.network.specs.declared.Network.{Network}
 use Rattle.network.specs.Record.{_then_, Stored, Slot, slot, slotFaultOf, slotFault, slotsFault, sizeFault, terminalFault, faultOf, hasEdge, firstEnd, secondEnd, withEdge, present}

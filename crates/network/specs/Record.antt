@@ -23,7 +23,7 @@ use mathlib.Core.Path.{_≡_}
 use Prim.Native.Nat.{ℕ, zero, suc, _<_, _^_}
 use lib.Dec.{leb, ltb, eqb}
 use lib.ListN.{length, getD, set, replicate}
-use Rattle.lists.specs.Words.{range}
+use Rattle.sequences.specs.Words.{range}
 use Rattle.bitset.specs.Members.{has, insert}
 use Rattle.network.specs.declared.Network.{Network}
 

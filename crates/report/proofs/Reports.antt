@@ -8,7 +8,7 @@ use native.Mathlib.Omega.{arith}
 use borrow.Author.Tests.{lt-ltb, le-ltb}
 use lib.ListN.{length, take, replicate, length-map, length-replicate, length-take}
 use lib.Seq.{take-at, take-all}
-use Rattle.lists.specs.Words.{onto}
+use Rattle.sequences.specs.Words.{onto}
 use Rattle.network.specs.declared.Network.{Network}
 use Rattle.network.specs.Record.{unlessRefused, faultOf}
 use Rattle.network.proofs.Refusals.{refused-none, refused-some}

@@ -7,7 +7,7 @@ use native.Mathlib.Numerals.{add-one}
 use native.Mathlib.Omega.{arith}
 use lib.ListN.{length, take, getD, set}
 use lib.Seq.{sets, take-suc, length-take-le, take-all}
-use Rattle.lists.proofs.Stores.{sets-append}
+use Rattle.sequences.proofs.Stores.{sets-append}
 
 -- To store the next byte of a text after its first i is to write its first i + 1.
 pub sets-next : (l : List ℕ) (at : ℕ) (t : List ℕ) (i : ℕ) {o : List ℕ} → o ≡ sets l at (take i t) → i < length t

@@ -7,7 +7,7 @@ use native.Mathlib.Nat.{zero-add}
 use native.Mathlib.Omega.{arith}
 use lib.ListN.{length, drop, set, length-append}
 use lib.Seq.{length-sets, sets-eq}
-use Rattle.lists.proofs.Stores.{sets-append}
+use Rattle.sequences.proofs.Stores.{sets-append}
 use Rattle.text.specs.Written.{Wrote, Printed}
 
 -- Writing keeps the length.

@@ -14,9 +14,9 @@ use lib.ListN.{length, getD, set, take, replicate, length-set}
 use lib.Seq.{take-suc, take-length, length-take-le, ext-getD, getD-set-same, getD-set-other}
 use Rattle.bitset.specs.Members.{size}
 use Rattle.bitset.proofs.Size.{size-le}
-use Rattle.lists.specs.Counts.{bit, countIf}
+use Rattle.sequences.specs.Counts.{bit, countIf}
 use Rattle.widths.specs.Widths.{tabulate, sum, widthsOf}
-use Rattle.lists.proofs.Counts.{count-nil, count-cons, count-append, count-le}
+use Rattle.sequences.proofs.Counts.{count-nil, count-cons, count-append, count-le}
 
 -- A width has a place in the table.
 pub width-lt : (c : ℕ) {w : ℕ} → w ≡ size 64 c → w < 65

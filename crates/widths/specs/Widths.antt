@@ -7,7 +7,7 @@ use mathlib.Core.List.{List, [], _∷_}
 use Prim.Native.Nat.{ℕ, zero, suc, _+_}
 use lib.Dec.{eqb}
 use Rattle.bitset.specs.Members.{size}
-use Rattle.lists.specs.Counts.{countIf}
+use Rattle.sequences.specs.Counts.{countIf}
 
 unfoldable pub tabulate : ℕ → (ℕ → ℕ) → List ℕ
 tabulate zero f = []

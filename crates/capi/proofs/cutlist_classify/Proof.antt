@@ -1,8 +1,8 @@
 -- `cutlist_classify` meets its contract, by those of `assemble`, `classify` and the numbers of a verdict.
 -- Assumes nothing.
 use mathlib.Core.Path.{ap, _∙_}
-use Rattle.reach.specs.declared.Verdict.{Verdict}
-use Rattle.reach.specs.Answers.{verdictOf, numbersOf}
+use Rattle.connectivity.specs.declared.Verdict.{Verdict}
+use Rattle.connectivity.specs.Answers.{verdictOf, numbersOf}
 use Rattle.capi.proofs.Judging.{judged-means}
 use borrow.Author.Needs.{needs}
 use Rattle.capi.proofs.cutlist_classify.Statement.{statement}

@@ -1,8 +1,8 @@
 -- `cutlist_relevant` meets its contract, by those of `assemble` and `relevant`.
 -- Assumes nothing.
 use mathlib.Core.Path.{ap, _∙_}
-use Rattle.reach.specs.declared.RelevantPart.{RelevantPart}
-use Rattle.reach.specs.Answers.{relevantOf}
+use Rattle.connectivity.specs.declared.RelevantPart.{RelevantPart}
+use Rattle.connectivity.specs.Answers.{relevantOf}
 use borrow.Author.Needs.{needs}
 use Rattle.capi.proofs.cutlist_relevant.Statement.{statement}
 use Rattle.capi.proofs.cutlist_relevant.Tie as tie

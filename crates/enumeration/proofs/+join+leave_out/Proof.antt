@@ -5,7 +5,7 @@ use native.Mathlib.Omega.{arith}
 use borrow.Author.Needs.{needs}
 use Rattle.bitset.specs.Members.{size, _∈_}
 use Rattle.network.specs.declared.Network.{Network}
-use Rattle.cuts.specs.Enumeration.{joined, leftOut, joinRows, leaveOutRows}
+use Rattle.branches.specs.Enumeration.{joined, leftOut, joinRows, leaveOutRows}
 use Rattle.enumeration.specs.Tables.{Tables}
 use Rattle.enumeration.specs.Rows.{Fed, Whole}
 use Rattle.enumeration.proofs.Putting.{put-past}
@@ -64,7 +64,7 @@ join-joined-requires t c κs = search needs
 
 -- The branch with v joined.
 next-joined : (t : ℕ) (c : join-lts.After-joined (join-claims t) (join-at t) join.Post) (M : Network)
-    → Tables M (c .before .before .before .before .args .near .now) (c .before .before .before .before .args .at .now) → c .before .before .before .before .args .sink ≡ M .sink → Fed M (c .before .before .before .before .args .b)
+    → Tables M (c .before .before .before .before .args .adjacent .now) (c .before .before .before .before .args .incident .now) → c .before .before .before .before .args .sink ≡ M .sink → Fed M (c .before .before .before .before .args .b)
     → (((c .before .before .before .before .args .v ∈ c .before .before .before .before .args .b .rest .0) → ⊥) → Whole M (c .before .before .before .before .args .b))
     → c .joined .result ≡ joined M (c .before .before .before .before .args .b) (c .before .before .before .before .args .v)
 next-joined t c M tab e fed whole =

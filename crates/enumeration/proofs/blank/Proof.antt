@@ -5,7 +5,7 @@ use Prim.Native.Nat.{ℕ, _^_}
 use Rattle.bitset.specs.Members.{_∖_}
 use Rattle.bitset.proofs.Results.{without-minus}
 use Rattle.graph.specs.Relevant.{relevantNodes}
-use Rattle.cuts.specs.Enumeration.{blank}
+use Rattle.branches.specs.Enumeration.{blank}
 use borrow.Author.Needs.{needs}
 use Rattle.enumeration.proofs.blank.Statement.{statement}
 use Rattle.enumeration.proofs.blank.Tie as tie
@@ -25,7 +25,7 @@ returns c N e f =
       out = record { 0 = 0 };
       undecided = record { 0 = less i };
       rest = record { 0 = e i };
-      border = record { 0 = 0 };
+      around = record { 0 = 0 };
       cut = record { 0 = 0 };
     }
 

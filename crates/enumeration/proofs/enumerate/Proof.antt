@@ -5,8 +5,8 @@ use native.Mathlib.Omega.{arith}
 use borrow.Author.Needs.{needs}
 use Rattle.graph.specs.Cuts.{only}
 use Rattle.graph.proofs.Sound.{Sound, accepted-sound}
-use Rattle.cuts.specs.Enumeration.{relevantPart}
-use Rattle.cuts.proofs.Part.{part-bounded}
+use Rattle.branches.specs.Enumeration.{relevantNetwork}
+use Rattle.branches.proofs.Part.{part-bounded}
 use Rattle.enumeration.specs.Tables.{Tables}
 use Rattle.enumeration.proofs.First.{relevant-present, blank-fed, source-free, source-rest, put-all}
 use Rattle.enumeration.proofs.enumerate.Statement.{statement}
@@ -53,13 +53,13 @@ returns c =
     let first = c .before .before .before .before .before .before .before .before .before .blank .result in
     let none = c .before .before .before .before .before .before .before .before .before .blank .ensures N (s .pre .1) refl in
     let filled = c .before .before .before .before .before .before .before .before .before .before .before .before .fill-tables in
-    let tables : Tables (relevantPart N) (filled .last .1 .1 .0) (filled .last .1 .1 .1 .0) = record {
+    let tables : Tables (relevantNetwork N) (filled .last .1 .1 .0) (filled .last .1 .1 .1 .0) = record {
       bounded = part-bounded N S;
       nodes = rw (s .pre .2) at (filled .ensures .0);
       edges = rw (s .pre .2) at (filled .ensures .1);
     } in
     put-all N S first none _ _ _ _ _ _ _
-    (c .before .before .before .before .join .ensures .1 (relevantPart N) tables refl (blank-fed N S first none) (λ off. absurd (off (source-rest N S first none))))
+    (c .before .before .before .before .join .ensures .1 (relevantNetwork N) tables refl (blank-fed N S first none) (λ off. absurd (off (source-rest N S first none))))
 
 pub enumerate-spec : {M : Type 1} → statement M
 enumerate-spec =

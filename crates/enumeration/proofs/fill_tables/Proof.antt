@@ -12,7 +12,7 @@ use Rattle.bitset.proofs.Scans.{Less, less-lowest, less-lt, none-left, gone-fir
 use Rattle.network.specs.Record.{firstEnd, secondEnd}
 use Rattle.graph.specs.Cuts.{only}
 use Rattle.graph.proofs.Sound.{accepted-sound}
-use Rattle.enumeration.specs.Tables.{Near, At}
+use Rattle.enumeration.specs.Tables.{Adjacency, Incidence}
 use Rattle.enumeration.proofs.Filling.{with-at, with-both-length, near-first, at-first, near-next, at-next, zeros, ends-fit}
 use Rattle.enumeration.proofs.fill_tables.Statement.{statement}
 use Rattle.enumeration.proofs.fill_tables.Tie as tie
@@ -22,8 +22,8 @@ Inv-loop near₀ at₀ network left₀ near at left =
     (left .0 ⊆ left₀ .0)
     × (length near ≡ 32)
     × (length at ≡ 32)
-    × Near (only network (left₀ .0 ∖ left .0)) near
-    × At (only network (left₀ .0 ∖ left .0)) at
+    × Adjacency (only network (left₀ .0 ∖ left .0)) near
+    × Incidence (only network (left₀ .0 ∖ left .0)) at
 
 abbrev μ-loop : tie.MeasureT-loop
 μ-loop near₀ at₀ network left₀ near at left = left .0
@@ -35,8 +35,8 @@ loop-holds c =
       ⊆-refl (c .args .edges .0),
       ap length (c .pre .2),
       ap length (c .pre .3),
-      rw none (near-first N (c .args .near .now) (λ v. rw (c .pre .2) (zeros 32 v))),
-      rw none (at-first N (c .args .at .now) (λ v. rw (c .pre .3) (zeros 32 v))),
+      rw none (near-first N (c .args .adjacent .now) (λ v. rw (c .pre .2) (zeros 32 v))),
+      rw none (at-first N (c .args .incident .now) (λ v. rw (c .pre .3) (zeros 32 v))),
     )
 
 lowest-requires : tie.Need-lowest-requires Inv-loop μ-loop
@@ -54,11 +54,11 @@ returns c =
 cast-slot : tie.Need-cast-slot Inv-loop μ-loop
 cast-slot c = search needs
 
-element-copy-out-link : tie.Need-element-copy-out-link Inv-loop μ-loop
-element-copy-out-link c = search needs
+element-copy-out-add-adjacent : tie.Need-element-copy-out-add-adjacent Inv-loop μ-loop
+element-copy-out-add-adjacent c = search needs
 
-element-copy-out-link-2 : tie.Need-element-copy-out-link-2 Inv-loop μ-loop
-element-copy-out-link-2 c = search needs
+element-copy-out-add-adjacent-2 : tie.Need-element-copy-out-add-adjacent-2 Inv-loop μ-loop
+element-copy-out-add-adjacent-2 c = search needs
 
 -- The ends of the edge have a place in the tables.
 ends : (c : tie.Else1 Inv-loop μ-loop)
@@ -70,29 +70,29 @@ ends c =
     let member = passes _ (c .before .lowest .ensures .member (c .if1 .left)) in
     ends-fit N S (c .before .lowest .result) (s .pre .1 _ (c .before .before .loop .inv .0 _ member))
 
-link-requires : tie.Need-link-requires Inv-loop μ-loop
-link-requires c κs = ends (c .before .before .before)
+add-adjacent-requires : tie.Need-add-adjacent-requires Inv-loop μ-loop
+add-adjacent-requires c κs = ends (c .before .before .before)
 
-element-copy-out-link-3 : tie.Need-element-copy-out-link-3 Inv-loop μ-loop
-element-copy-out-link-3 c = search needs
+element-copy-out-add-adjacent-3 : tie.Need-element-copy-out-add-adjacent-3 Inv-loop μ-loop
+element-copy-out-add-adjacent-3 c = search needs
 
-element-copy-out-link-4 : tie.Need-element-copy-out-link-4 Inv-loop μ-loop
-element-copy-out-link-4 c = search needs
+element-copy-out-add-adjacent-4 : tie.Need-element-copy-out-add-adjacent-4 Inv-loop μ-loop
+element-copy-out-add-adjacent-4 c = search needs
 
-link-requires-2 : tie.Need-link-requires-2 Inv-loop μ-loop
-link-requires-2 c κs = let e = ends (c .before .before .before .before .before .before .before) in (e .1, e .0)
+add-adjacent-requires-2 : tie.Need-add-adjacent-requires-2 Inv-loop μ-loop
+add-adjacent-requires-2 c κs = let e = ends (c .before .before .before .before .before .before .before) in (e .1, e .0)
 
-element-copy-out-hang : tie.Need-element-copy-out-hang Inv-loop μ-loop
-element-copy-out-hang c = search needs
+element-copy-out-add-incident : tie.Need-element-copy-out-add-incident Inv-loop μ-loop
+element-copy-out-add-incident c = search needs
 
-hang-requires : tie.Need-hang-requires Inv-loop μ-loop
-hang-requires c κs = (ends (c .before .before .before .before .before .before .before .before .before .before) .0, c .before .before .before .before .before .before .before .before .before .before .if1 .left)
+add-incident-requires : tie.Need-add-incident-requires Inv-loop μ-loop
+add-incident-requires c κs = (ends (c .before .before .before .before .before .before .before .before .before .before) .0, c .before .before .before .before .before .before .before .before .before .before .if1 .left)
 
-element-copy-out-hang-2 : tie.Need-element-copy-out-hang-2 Inv-loop μ-loop
-element-copy-out-hang-2 c = search needs
+element-copy-out-add-incident-2 : tie.Need-element-copy-out-add-incident-2 Inv-loop μ-loop
+element-copy-out-add-incident-2 c = search needs
 
-hang-requires-2 : tie.Need-hang-requires-2 Inv-loop μ-loop
-hang-requires-2 c κs = (ends (c .before .before .before .before .before .before .before .before .before .before .before .before .before) .1, c .before .before .before .before .before .before .before .before .before .before .before .before .before .if1 .left)
+add-incident-requires-2 : tie.Need-add-incident-requires-2 Inv-loop μ-loop
+add-incident-requires-2 c κs = (ends (c .before .before .before .before .before .before .before .before .before .before .before .before .before) .1, c .before .before .before .before .before .before .before .before .before .before .before .before .before .if1 .left)
 
 without-lowest-requires : tie.Need-without-lowest-requires Inv-loop μ-loop
 without-lowest-requires c κs = search needs
@@ -117,13 +117,13 @@ loop-again c =
     let b = secondEnd N k in
     let e = ends (i) in
     let gone = gone-next all (l .left .0) k _ (l .inv .0) (less c) in
-    let linked = c .before .before .before .before .before .before .before .link2 .ensures ∙ ap (λ (t : List ℕ). with-at t b a) (c .before .before .before .before .before .before .before .before .before .before .before .link .ensures) in
-    let hung = c .before .hang2 .ensures ∙ ap (λ (t : List ℕ). with-at t b k) (c .before .before .before .before .hang .ensures) in (
+    let linked = c .before .before .before .before .before .before .before .add-adjacent2 .ensures ∙ ap (λ (t : List ℕ). with-at t b a) (c .before .before .before .before .before .before .before .before .before .before .before .add-adjacent .ensures) in
+    let hung = c .before .add-incident2 .ensures ∙ ap (λ (t : List ℕ). with-at t b k) (c .before .before .before .before .add-incident .ensures) in (
       λ j m. l .inv .0 j (less c .rest j .0 m .0),
-      rw linked (with-both-length (l .near) a b b a ∙ l .inv .1),
-      rw hung (with-both-length (l .at) a b k k ∙ l .inv .2),
-      rw (gone, linked) (near-next N (all ∖ l .left .0) k (l .near) (rw (l .inv .1) (e .0)) (rw (l .inv .1) (e .1)) (l .inv .3)),
-      rw (gone, hung) (at-next N (all ∖ l .left .0) k (l .at) (rw (l .inv .2) (e .0)) (rw (l .inv .2) (e .1)) (l .inv .4)),
+      rw linked (with-both-length (l .adjacent) a b b a ∙ l .inv .1),
+      rw hung (with-both-length (l .incident) a b k k ∙ l .inv .2),
+      rw (gone, linked) (near-next N (all ∖ l .left .0) k (l .adjacent) (rw (l .inv .1) (e .0)) (rw (l .inv .1) (e .1)) (l .inv .3)),
+      rw (gone, hung) (at-next N (all ∖ l .left .0) k (l .incident) (rw (l .inv .2) (e .0)) (rw (l .inv .2) (e .1)) (l .inv .4)),
     )
 
 pub fill-tables-spec : {M : Type 1} → statement M
@@ -136,16 +136,16 @@ fill-tables-spec =
     lowest-requires
     returns
     cast-slot
-    element-copy-out-link
-    element-copy-out-link-2
-    link-requires
-    element-copy-out-link-3
-    element-copy-out-link-4
-    link-requires-2
-    element-copy-out-hang
-    hang-requires
-    element-copy-out-hang-2
-    hang-requires-2
+    element-copy-out-add-adjacent
+    element-copy-out-add-adjacent-2
+    add-adjacent-requires
+    element-copy-out-add-adjacent-3
+    element-copy-out-add-adjacent-4
+    add-adjacent-requires-2
+    element-copy-out-add-incident
+    add-incident-requires
+    element-copy-out-add-incident-2
+    add-incident-requires-2
     without-lowest-requires
     loop-less
     loop-again)

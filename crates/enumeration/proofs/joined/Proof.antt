@@ -7,8 +7,8 @@ use lib.Bits.{bitXor}
 use Rattle.bitset.specs.Members.{insert, _∖_}
 use Rattle.bitset.proofs.Results.{with-member, without-minus, union-or}
 use Rattle.graph.specs.Relevant.{reachIn}
-use Rattle.cuts.specs.declared.Branch.{Branch}
-use Rattle.cuts.specs.Enumeration.{joined}
+use Rattle.branches.specs.declared.Branch.{Branch}
+use Rattle.branches.specs.Enumeration.{joined}
 use Rattle.enumeration.proofs.Halves.{beside-round, at-edges}
 use Rattle.enumeration.proofs.joined.Statement.{statement}
 use Rattle.enumeration.proofs.joined.Tie as tie
@@ -53,16 +53,16 @@ returns c =
       λ M t e there whole.
           let rest = c .before .before .before .before .before .rest-without .ensures M (t .bounded) (t .nodes) there (λ off. rw e (whole off))
           ∙ ap (reachIn M (b .rest .0 ∖ 2 ^ v)) e in
-          let border = with-member 32 _ v _ h (c .before .before .with2 .ensures)
-          ∙ ap (λ (x : ℕ). insert x v) (union-or (b .border .0) _ _ (c .before .before .before .union .ensures))
-          ∙ beside-round M (t .bounded) (a .near .now) (t .nodes) v h (b .border .0) in
-          let cut = ap (bitXor (b .cut .0)) (at-edges M (t .bounded) (a .at .now) (t .edges) v h) in
+          let around = with-member 32 _ v _ h (c .before .before .with2 .ensures)
+          ∙ ap (λ (x : ℕ). insert x v) (union-or (b .around .0) _ _ (c .before .before .before .union .ensures))
+          ∙ beside-round M (t .bounded) (a .adjacent .now) (t .nodes) v h (b .around .0) in
+          let cut = ap (bitXor (b .cut .0)) (at-edges M (t .bounded) (a .incident .now) (t .edges) v h) in
           λ i. record {
             side = record { 0 = side i };
             out = b .out;
             undecided = record { 0 = undecided i };
             rest = record { 0 = rest i };
-            border = record { 0 = border i };
+            around = record { 0 = around i };
             cut = record { 0 = cut i };
           },
     )

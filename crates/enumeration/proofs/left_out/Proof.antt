@@ -1,8 +1,8 @@
 -- `left_out` meets its contract, field by field.
 -- Assumes nothing.
 use Rattle.bitset.proofs.Results.{with-member, without-minus}
-use Rattle.cuts.specs.declared.Branch.{Branch}
-use Rattle.cuts.specs.Enumeration.{leftOut}
+use Rattle.branches.specs.declared.Branch.{Branch}
+use Rattle.branches.specs.Enumeration.{leftOut}
 use borrow.Author.Needs.{needs}
 use Rattle.enumeration.proofs.left_out.Statement.{statement}
 use Rattle.enumeration.proofs.left_out.Tie as tie
@@ -25,7 +25,7 @@ returns c =
       out = record { 0 = e i };
       undecided = record { 0 = f i };
       rest = b .rest;
-      border = b .border;
+      around = b .around;
       cut = b .cut;
     }
 

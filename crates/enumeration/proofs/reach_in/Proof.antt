@@ -26,7 +26,7 @@ single-requires c κs = search needs
 loop-holds : tie.Need-loop-holds Inv-loop μ-loop
 loop-holds c = (
   search needs,
-  spread-first (c .before .args .near .now) (c .before .args .within .0) (c .before .args .start) (c .single .result .0) (in-alone (c .before .args .start) (c .single .result .0) (c .single .ensures)),
+  spread-first (c .before .args .adjacent .now) (c .before .args .within .0) (c .before .args .start) (c .single .result .0) (in-alone (c .before .args .start) (c .single .result .0) (c .single .ensures)),
 )
 
 lowest-requires : tie.Need-lowest-requires Inv-loop μ-loop
@@ -58,7 +58,7 @@ union-requires-2 c κs = search needs
 
 -- The turn of the lowest fresh node.
 turn : (c : tie.After-union2 Inv-loop μ-loop)
-    → Turn (getD (c .before .before .before .before .before .before .before .before .before .before .args .near .now) (c .before .before .before .before .before .before .before .lowest .result) 0)
+    → Turn (getD (c .before .before .before .before .before .before .before .before .before .before .args .adjacent .now) (c .before .before .before .before .before .before .before .lowest .result) 0)
     (c .before .before .before .before .before .before .before .before .before .before .args .within .0)
     (c .before .before .before .before .before .before .before .before .loop .reached .0)
     (c .before .before .before .before .before .before .before .before .loop .fresh .0)
@@ -88,7 +88,7 @@ returns c M B table there =
     let a = c .before .before .before .before .args in
     let l = c .before .before .loop in
     let small : l .fresh .0 < 2 ^ 32 = lt-of-le-of-lt (subset-le (l .fresh .0) (l .reached .0) (l .inv .1 .part)) (l .inv .0) in
-    spread-last (a .near .now) (a .within .0) (a .start) (l .reached .0) (l .fresh .0) (l .inv .1)
+    spread-last (a .adjacent .now) (a .within .0) (a .start) (l .reached .0) (l .fresh .0) (l .inv .1)
     (none-left 32 (l .fresh .0) (l .fresh .0) _ small (⊆-refl (l .fresh .0)) (c .before .lowest .ensures) (c .if1 .taken)) (l .inv .0) (search needs) M B table there
 
 pub reach-in-spec : {M : Type 1} → statement M

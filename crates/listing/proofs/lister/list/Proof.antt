@@ -7,11 +7,11 @@ use native.Mathlib.Omega.{arith}
 use borrow.Author.Tests.{ltb-true, ltb-false}
 use lib.ListN.{length}
 use Rattle.network.specs.Record.{Stored}
-use Rattle.cuts.specs.Enumeration.{rows}
+use Rattle.branches.specs.Enumeration.{rows}
 use Rattle.listing.proofs.Onto.{lent-alike}
 use Rattle.listing.proofs.Meaning.{answered-means}
 use Rattle.listing.proofs.Call.{answered-faulty, answered-unpaired, answered-outnumbered, answered-complete}
-use Rattle.reach.proofs.Answers.{part-refusal, part-nodes, part-edges}
+use Rattle.connectivity.proofs.Answers.{part-refusal, part-nodes, part-edges}
 use borrow.Author.Needs.{needs}
 use Rattle.listing.proofs.lister.list.Statement.{statement}
 use Rattle.listing.proofs.lister.list.Tie as tie

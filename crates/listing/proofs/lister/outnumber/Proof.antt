@@ -8,8 +8,8 @@ use lib.ListN.{length}
 use Rattle.bitset.specs.Members.{size}
 use Rattle.network.specs.Record.{Stored}
 use Rattle.graph.proofs.Sound.{accepted-sound}
-use Rattle.cuts.specs.Enumeration.{rows}
-use Rattle.cuts.proofs.Complete.{rows-at-most}
+use Rattle.branches.specs.Enumeration.{rows}
+use Rattle.branches.proofs.Complete.{rows-at-most}
 use Rattle.listing.proofs.Given.{counted}
 use borrow.Author.Needs.{needs}
 use Rattle.listing.proofs.lister.outnumber.Statement.{statement}

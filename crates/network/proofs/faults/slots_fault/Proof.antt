@@ -5,7 +5,7 @@ use Prim.Native.Nat.{_-_, _≤_}
 use native.Mathlib.Omega.{arith}
 use borrow.Author.Needs.{needs}
 use native.Mathlib.Numerals.{add-one}
-use Rattle.lists.specs.Words.{range}
+use Rattle.sequences.specs.Words.{range}
 use Rattle.network.specs.Record.{slotFaultOf, slotFault, slotsFault, firstEnd, secondEnd}
 use Rattle.network.proofs.Slots.{slots-step}
 use Rattle.network.proofs.Refusals.{none-then, some-then}

@@ -1,0 +1,76 @@
+-- Lists without repeats: what they are made of, and how long they can be.
+-- Assumes nothing.
+use mathlib.Core.Path.{_≡_, refl, sym, ap, _∙_}
+use mathlib.Core.HLevel.{⊥-prop}
+use mathlib.Core.List.{List, [], _∷_, _++_, List·Nodup, nodup-nil, nodup-cons, rel-of-pairwise-cons, Pairwise·of-cons, List·Memᴰ, List·Memᴰ·head, List·Memᴰ·tail, List·Memᴰ·not-nil, List·Memᴰ·cases-cons, List·Memᴰ·append-cases, Memᴰ·append-left, Memᴰ·append-right, Memᴰ·cast}
+use mathlib.Core.Logic.{inl, inr, _↔_, ∥∥₁-elim}
+use Prim.Native.Nat.{ℕ, suc, _≤_, _<_, zero-le}
+use native.Mathlib.Omega.{arith}
+use lib.ListN.{length}
+use Rattle.sequences.specs.Distinct.{Distinct}
+use Rattle.sequences.specs.Rising.{Rising}
+
+-- A joined list has no element twice exactly if neither part has and no element stands in both.
+pub distinct-append : (k l : List ℕ)
+    → Distinct (k ++ l) ↔ (Distinct k × Distinct l × ((y : ℕ) → List·Memᴰ y k → List·Memᴰ y l → ⊥))
+unfolding Distinct
+distinct-append [] l = (λ d. (tt, d, λ y m n. List·Memᴰ·not-nil m), λ d. d .1)
+distinct-append (x ∷ k) l = (
+  λ d. let r = distinct-append k l .0 (d .1) in (
+    (λ m. d .0 (Memᴰ·append-left l m), r .0),
+    r .1,
+    λ y m n. elim (List·Memᴰ·cases-cons m) [ inl e ↦ d .0 (Memᴰ·append-right k (Memᴰ·cast (sym e) n)) | inr m′ ↦ r .2 y m′ n ],
+  ),
+  λ d. (
+    λ m. elim (List·Memᴰ·append-cases k m) [ inl m′ ↦ d .0 .0 m′ | inr n ↦ d .2 x (List·Memᴰ·head refl) n ],
+    distinct-append k l .1 (d .0 .1, d .1, λ y m n. d .2 y (List·Memᴰ·tail m) n),
+  ),
+)
+
+-- The kit's word for them.
+pub distinct-nodup : (l : List ℕ) → Distinct l → List·Nodup l
+unfolding Distinct
+distinct-nodup [] d = nodup-nil
+distinct-nodup (x ∷ l) d = nodup-cons .1 (λ m. ∥∥₁-elim m ⊥-prop (d .0), distinct-nodup l (d .1))
+
+-- Numbers that rise are no repeats.
+pub rising-distinct : (l : List ℕ) → Rising l → Distinct l
+unfolding Distinct
+rising-distinct [] r = tt
+rising-distinct (x ∷ l) r = (λ m. absurd (omega (arith, rel-of-pairwise-cons r ∣ m ∣₁)), rising-distinct l (Pairwise·of-cons r))
+
+-- ---- the length
+
+-- The list m with the element x at some place, and the rest of it.
+record Taken (x : ℕ) (m : List ℕ) : Type 0 where
+  rest : List ℕ
+  shorter : suc (length rest) ≡ length m
+  others : (y : ℕ) → (y ≡ x → ⊥) → List·Memᴰ y m → List·Memᴰ y rest
+
+-- A member can be taken out of a list.
+taken : (x : ℕ) (m : List ℕ) → List·Memᴰ x m → Taken x m
+taken x [] i = absurd (List·Memᴰ·not-nil i)
+taken x (y ∷ m) i =
+    elim (List·Memᴰ·cases-cons i) [
+      | inl e ↦ record {
+        rest = m;
+        shorter = refl;
+        others = λ z differ j. elim (List·Memᴰ·cases-cons j) [ inl p ↦ absurd (differ (p ∙ sym e)) | inr k ↦ k ];
+      }
+      | inr j ↦
+          let t = taken x m j in record {
+            rest = y ∷ t .rest;
+            shorter = ap suc (t .shorter);
+            others = λ z differ k. elim (List·Memᴰ·cases-cons k) [ inl p ↦ List·Memᴰ·head p | inr n ↦ List·Memᴰ·tail (t .others z differ n) ];
+          }
+    ]
+
+-- A list without repeats whose members all stand in another list is no longer than it.
+pub distinct-at-most : (l m : List ℕ) → Distinct l → ((x : ℕ) → List·Memᴰ x l → List·Memᴰ x m) → length l ≤ length m
+unfolding Distinct
+distinct-at-most [] m d within = zero-le
+distinct-at-most (x ∷ l) m d within =
+    let t : Taken x m = taken x m (within x (List·Memᴰ·head refl)) in
+    let rest : length l ≤ length (t .rest) = distinct-at-most l (t .rest) (d .1) (λ y j.
+    t .others y (λ e. d .0 (Memᴰ·cast (sym e) j)) (within y (List·Memᴰ·tail j))) in
+    omega (arith, t .shorter)

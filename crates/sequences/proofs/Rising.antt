@@ -1,0 +1,45 @@
+-- Rising lists: an earlier place holds a smaller number, and two with the same members are equal.
+-- Assumes nothing.
+use mathlib.Core.Path.{_≡_, refl, sym, ap₂}
+use mathlib.Core.List.{List, [], _∷_, Pairwise·of-cons, rel-of-pairwise-cons, List·Memᴰ, List·Memᴰ·head, List·Memᴰ·tail, List·Memᴰ·not-nil, List·Memᴰ·cases-cons}
+use mathlib.Core.Logic.{_⊎_, inl, inr, _↔_}
+use Prim.Native.Nat.{ℕ, zero, suc, _<_}
+use native.Mathlib.Nat.{not-suc-le-zero, le-of-suc-le-suc}
+use native.Mathlib.Omega.{arith}
+use lib.ListN.{length, getD}
+use Rattle.sequences.specs.Rising.{Rising}
+use Rattle.sequences.proofs.Places.{mem-at}
+
+-- Of two rising lists with the same members, the first numbers are equal.
+first-same : (x y : ℕ) (l k : List ℕ) → Rising (x ∷ l) → Rising (y ∷ k) → ((c : ℕ) → List·Memᴰ c (x ∷ l) ↔ List·Memᴰ c (y ∷ k)) → x ≡ y
+first-same x y l k p q same = go (List·Memᴰ·cases-cons (same x .0 (List·Memᴰ·head refl))) (List·Memᴰ·cases-cons (same y .1 (List·Memᴰ·head refl)))
+  where
+    go : (x ≡ y) ⊎ List·Memᴰ x k → (y ≡ x) ⊎ List·Memᴰ y l → x ≡ y
+    go (inl e) n = e
+    go (inr m) (inl e) = sym e
+    go (inr m) (inr n) = absurd (omega (arith, rel-of-pairwise-cons p ∣ n ∣₁, rel-of-pairwise-cons q ∣ m ∣₁))
+
+-- What stands after the first number of a rising list stands after an equal first number of a list with the same members.
+rest-member : (x y c : ℕ) (l k : List ℕ) → x ≡ y → Rising (x ∷ l) → (List·Memᴰ c (x ∷ l) → List·Memᴰ c (y ∷ k)) → List·Memᴰ c l → List·Memᴰ c k
+rest-member x y c l k first p to m =
+    elim (List·Memᴰ·cases-cons (to (List·Memᴰ·tail m))) [
+      | inl e ↦ absurd (omega (arith, rel-of-pairwise-cons p ∣ m ∣₁))
+      | inr n ↦ n
+    ]
+
+-- Two rising lists with the same members are equal.
+pub rising-unique : (l k : List ℕ) → Rising l → Rising k → ((c : ℕ) → List·Memᴰ c l ↔ List·Memᴰ c k) → l ≡ k
+rising-unique [] [] p q same = refl
+rising-unique [] (y ∷ k) p q same = absurd (List·Memᴰ·not-nil (same y .1 (List·Memᴰ·head refl)))
+rising-unique (x ∷ l) [] p q same = absurd (List·Memᴰ·not-nil (same x .0 (List·Memᴰ·head refl)))
+rising-unique (x ∷ l) (y ∷ k) p q same =
+    let e : x ≡ y = first-same x y l k p q same in
+    ap₂ _∷_ e (rising-unique l k (Pairwise·of-cons p) (Pairwise·of-cons q) (λ c.
+    (rest-member x y c l k e p (same c .0), rest-member y x c k l (sym e) q (same c .1))))
+
+-- In a rising list an earlier place holds a smaller number.
+pub rising-places : (l : List ℕ) → Rising l → (i j : ℕ) → i < j → j < length l → getD l i 0 < getD l j 0
+rising-places [] r i j h k = absurd (not-suc-le-zero k)
+rising-places (x ∷ l) r i zero h k = absurd (not-suc-le-zero h)
+rising-places (x ∷ l) r zero (suc j) h k = rel-of-pairwise-cons r ∣ mem-at l j 0 (le-of-suc-le-suc k) ∣₁
+rising-places (x ∷ l) r (suc i) (suc j) h k = rising-places l (Pairwise·of-cons r) i j (le-of-suc-le-suc h) (le-of-suc-le-suc k)
