@@ -201,7 +201,8 @@ impl Plan {
     /// 2^(n - 2).
     ///
     /// Memory is asked for as the list needs it, and never for more rows than `most`, each of 12
-    /// bytes. If it is not there, that is an error too.
+    /// bytes. If it is not there, that is an error too; a system that promises more than it has can
+    /// still end the process once the rows are filled, so choose a bound that fits the machine.
     pub fn mincuts(&self, most: usize) -> Result<Mincuts, ListError> {
         let mut rows = most.min(FIRST_ROWS);
         loop {
