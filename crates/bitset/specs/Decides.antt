@@ -1,4 +1,5 @@
 -- Answers to questions.
+-- Working.
 --
 --   Decides r P      the answer r is true exactly if P holds
 use mathlib.Core.Path.{_≡_}

@@ -1,11 +1,12 @@
 -- Families of sets: least sets, transversals and blockers.
+-- To believe.
 --
 --   Meets s t            the sets s and t have a common member
 --   Holds F h            some set of the family F lies inside h
 --   Least P t            t has P, and no proper subset of it has
 --   Transversal F t      t meets every set of F
 --   Blocker F            the family of the least transversals of F
---   Clutter F            no set of F holds another
+--   Clutter F            no set of F holds another  [working]
 use mathlib.Core.Path.{_≡_}
 use Prim.Native.Nat.{ℕ}
 use Rattle.bitset.specs.Members.{_⊆_, _∈_}

@@ -1,14 +1,18 @@
 -- Sets of small numbers, each kept in one number: member k weighs 2 ^ k.
+-- To believe.
 --
 --   has s k          whether k is a member of s; a Bool, so that it computes
 --   k ∈ s            k is a member of s
 --   s ⊆ t            every member of s is a member of t
---   insert s k       s with the member k
---   s ∖ t            the members of s that are not in t
+--   insert s k       s with the member k  [computed: in-insert (bitset/proofs/Sets)]
+--   s ∖ t            the members of s that are not in t  [computed: in-minus (bitset/proofs/Sets)]
 --   size w s         how many members s has below w
---   Lowest w s r     r is the lowest member of s below w, and is w if there is none
---   members w s      the members of s below w, rising
+--   Lowest w s r     r is the lowest member of s below w, and is w if there is none  [working]
+--   membersFrom s k n    the members of s among the n numbers from k on, rising
+--                    [computed: in-members, members-rising (bitset/proofs/MemberList)]
+--   members w s      the members of s below w, rising  [computed: in-members, members-rising (bitset/proofs/MemberList)]
 --   subsets w s      the subsets of the members of s below w, as numbers, rising
+--                    [computed: mem-subsets, subsets-rising (bitset/proofs/Subsets)]
 --
 -- A set of points (at most 32) and a set of cables (at most 64) are both such numbers; the code keeps the two kinds apart by their
 -- types, `NodeSet` and `EdgeSet`, and everything below is said once for every width.

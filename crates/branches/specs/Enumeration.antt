@@ -1,13 +1,15 @@
 -- The enumeration of source sides (the paper's near sides), as it is computed: a node beside the side joins it, or is left out for good.
+-- Computed: explained by in-rows, cuts-once (branches/proofs/Complete).
 --
---   Branch               a side in the making; see src/lib.rt
---     side                 what has joined: a connected set with the source
---     out                  what is left out for good
---     undecided            the relevant nodes that are neither, sink aside
---     rest                 what the sink reaches among the relevant nodes outside the side
---     around               the side and the nodes beside it
---     cut                  the boundary of the side
---   relevantNetwork N       N with the relevant edges alone; the M of the definitions below
+-- A `Branch` (src/lib.rt) is a side in the making:
+--       side             what has joined: a connected set with the source
+--       out              what is left out for good
+--       undecided        the relevant nodes that are neither, sink aside
+--       rest             what the sink reaches among the relevant nodes outside the side
+--       around           the side and the nodes beside it
+--       cut              the boundary of the side
+--
+--   relevantNetwork N    N with the relevant edges alone; the M of the definitions below
 --   blank N              the branch in which nothing is decided yet
 --   candidate b          the lowest undecided node beside the side, 32 if there is none
 --   joined M b v         the branch b with v joined
@@ -15,7 +17,8 @@
 --   start N              the first branch: the source alone has joined, nothing is left out
 --   isOpen b             the sink still reaches all that is left out: otherwise the branch has no row
 --   Row                  a cut and the source side beside it
---   cutsOf l, sidesOf l  the cuts and the sides of a list of rows
+--   cutsOf l             the cuts of a list of rows
+--   sidesOf l            the sides of a list of rows
 --   rowOf b              the row of a branch without a candidate
 --   branchRows M n b     the rows of the branch b, with at most n candidates one after the other
 --   rowsOf M b           the rows of the branch b

@@ -1,4 +1,5 @@
 -- The complete list of the mincuts of a network (the paper's complete list).
+-- Working.
 --
 --   Lists N l        l rises, and its members are exactly the mincuts of N
 use mathlib.Core.List.{List, List·Memᴰ}

@@ -1,11 +1,13 @@
 -- What crosses the border to other languages, field by field.
+-- To believe.
 --
 --   Read s r N           reading the bytes s gives the refusal r and the network N
 --   Written N lent r n after     writing N into a buffer that held `lent` gives the refusal r and the count n, and leaves `after` in it
 --   Found N r n e        finding the relevant part of N gives the refusal r, the nodes n and the edges e
 --   Judged N c r v       judging the set c in N gives the refusal r and the verdict v, by its number
 --   JudgedMeans N c r v  what the refusal r and the verdict v on c mean
---   Listing N cuts sides r n cuts′ sides′     listing N into rows that held `cuts` and `sides` gives the refusal r and the count n, and leaves cuts′ and sides′ in them
+--   Listing N cuts sides r n cuts′ sides′     listing N into rows that held `cuts` and `sides` gives the refusal r and the count n, and
+--                        leaves cuts′ and sides′ in them
 use mathlib.Core.List.{List}
 use mathlib.Core.Logic.{_↔_}
 use mathlib.Core.Path.{_≡_}

@@ -1,13 +1,17 @@
--- The answers of the calls, refusals included, as they are computed.
+-- The answers of the calls, refusals included, and what they mean.
+-- To believe.
 --
 --   partFrom r n e       a relevant part from its fields: the refusal r beside the nodes n and the edges e
---   relevantOf N         the relevant part of N (the paper's useful part): its first fault beside two empty sets, else 0 beside the relevant nodes and edges
+--   relevantOf N         the relevant part of N (the paper's useful part): its first fault beside two empty sets, else 0 beside the
+--                        relevant nodes and edges
 --   PartMeans N r n e    what the refusal r, the nodes n and the edges e mean as the relevant part of N
 --   judgeFault N c       the refusal of judging c: the first fault of N, then 14 for an edge that is not present
+--   verdictOn N c        what c is, where nothing is refused  [computed: verdict-iff (connectivity/proofs/Answers)]
 --   verdictOf N c        what c is, or the refusal
 --   Says N c v           what the verdict v says of c
 --   VerdictMeans N c v   what the verdict v on c means
---   numbersOf v          the numbers of each case: that of the refusal, 0 beside a verdict, and that of the verdict, 0 beside a refusal
+--   Numbers              the numbers of a verdict: that of the refusal, and that of the verdict
+--   numbersOf v          the numbers of each case: that of the refusal is 0 beside a verdict, that of the verdict 0 beside a refusal
 use mathlib.Core.Bool.{true, false, not}
 use mathlib.Core.Logic.{_↔_}
 use mathlib.Core.Path.{_≡_}

@@ -1,2 +1,2 @@
--- The definitions that the contracts of `reach` cite.
+-- The definitions that the contracts of `connectivity` cite.
 pub mod Answers

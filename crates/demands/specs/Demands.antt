@@ -1,6 +1,7 @@
 -- The customer's three demands, as statements about the calls. What a call answers and leaves is what its contract says: `decodeOf`,
 -- `faultOf`, `relevantOf`, `verdictOf`, `listedBy` with the rows afterwards, `encodedBy` with the bytes afterwards, and
 -- `reportOf` of the program. `Stored N`, what the types of the code say of any record, is in the contract of every call that takes one.
+-- To believe.
 --
 --   DemandOne        every call ends with the complete result or with the refusal that its own condition calls for
 --   DemandTwo        the list holds exactly the minimal cuts, each beside its near side; writing and reading give back what they were given

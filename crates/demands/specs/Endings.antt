@@ -1,7 +1,9 @@
 -- How each open call ends (demand 1): with its complete result beside the refusal 0, or with the number of the first fault in the paper's
--- order, its empty result, and lent memory as it was. The cases of a call exclude each other, so each refusal of its own is given exactly if
--- its condition holds and no earlier fault stands. Of plan faults the order is that of their definitions: of a record's `faultOf`, rule after
--- rule, and of a plan's in bytes `decodeOf`, command after command; what is said here of bytes is that these alone are read which keep the rules.
+-- order, its empty result, and lent memory as it was. The cases of a call exclude each other, so each refusal of its own is given exactly
+-- if its condition holds and no earlier fault stands. Of plan faults the order is that of their definitions: of a record's `faultOf`, rule
+-- after rule, and of a plan's in bytes `decodeOf`, command after command; what is said here of bytes is that these alone are read which
+-- keep the rules.
+-- To believe.
 --
 --   ReaderEnds s d                   reading the bytes s gives d
 --   PartEnds N p                     finding the relevant part of N gives p

@@ -1,15 +1,29 @@
 -- The starred halls of the paper ("Halls to try"): a table, and the test of it, which computes.
+-- To believe.
 --
---   JudgedSet               a judged set: its number, whether it is a cut, and whether it is a mincut
+--   JudgedSet            a judged set: its number, whether it is a cut, and whether it is a mincut
 --   Hall                 a plan in bytes, its cuts and sides, the sets judged on it, how many cuts have width 0, 1, .., the points that the
 --                        server reaches, the relevant nodes and edges, and what the list program prints
---   halls                the table; what the paper leaves out is worked out by hand
+--
+-- The table; what the paper leaves out is worked out by hand:
+--   bridge               the bridge
+--   barCable             the bar cable
+--   spur                 the spur
+--   hangingTriangle      the hanging triangle
+--   noCable              two points, no cable
+--   twoCables            two points, cables 0 and 1
+--   inARow               two cables in a row
+--   exchanged            the same with the cables exchanged
+--   halls                all of these
+--
 --   networkOf h          the record read from the bytes
 --   widthTable h         the 65 counts of the width table
---   same l m             whether two lists are equal
+--   same l m             whether two lists are equal  [computed: halls-established (demands/proofs/Halls)]
 --   judgedTest N j       whether what the table says of a judged set is what is computed
+--                        [computed: halls-established (demands/proofs/Halls)]
 --   hallTests h          for each thing that the table says of a hall, whether it is what is computed from its bytes
---   hallTest h           whether all of it is
+--                        [computed: halls-established (demands/proofs/Halls)]
+--   hallTest h           whether all of it is  [computed: halls-established (demands/proofs/Halls)]
 --   Established h        what the table says of a hall, by the definitions
 use mathlib.Core.Bool.{Bool, true, false, _&&_, Bool·beq}
 use mathlib.Core.List.{List, [], _∷_, _++_, List·Memᴰ}
@@ -53,7 +67,7 @@ pub record Hall : Type 0 where
 
 -- The server is point 0 in every hall, and a hall has as many points as its cables need.
 
--- JudgedSet on it: 9 no cut, 7 not minimal, 14 minimal. Widths: two of 2, two of 3.
+-- Judged on it: 9 no cut, 7 not minimal, 14 minimal. Widths: two of 2, two of 3.
 unfoldable pub bridge : Hall
 bridge = record {
   plan = 0x50 ∷ 4 ∷ 0x53 ∷ 0 ∷ 3 ∷ 0x43 ∷ 0 ∷ 0 ∷ 1 ∷ 0x43 ∷ 1 ∷ 0 ∷ 2 ∷ 0x43 ∷ 2 ∷ 1 ∷ 2 ∷ 0x43 ∷ 3 ∷ 1 ∷ 3 ∷ 0x43 ∷ 4 ∷ 2 ∷ 3 ∷ 0x45 ∷ [];

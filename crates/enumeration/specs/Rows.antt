@@ -1,4 +1,5 @@
 -- The rows of the enumeration in two lent areas, one of cuts and one of source sides.
+-- Working.
 --
 --   Fed M b          the sink is in the rest of the branch b, and it is not undecided
 --   Whole M b        the rest of the branch b is what the sink reaches inside it
@@ -7,8 +8,11 @@
 --   Put l n limit cuts sides cuts′ sides′ r
 --                    the areas cuts and sides have become cuts′ and sides′: they hold the rows of l from place n on, as far as they reach,
 --                    and r is the place after these rows, at most one past the limit
---   JoinedBranch, JoinPut, LeaveOutPut
---                    what the steps of the enumeration give, of every network whose tables and sink they were given
+--
+-- What the steps of the enumeration give, of every network whose tables `adjacent` and `incident` and whose sink they were given:
+--   JoinedBranch adjacent incident sink b v r     the branch r is b with v joined
+--   JoinPut adjacent incident sink b v n limit cuts sides cuts′ sides′ r     the rows in which v joins are put
+--   LeaveOutPut adjacent incident sink b v n limit cuts sides cuts′ sides′ r     the rows in which v is left out are put
 use mathlib.Core.List.{List}
 use mathlib.Core.Path.{_≡_}
 use Prim.Native.Nat.{ℕ, _+_, _^_, min, _≤_, _<_}

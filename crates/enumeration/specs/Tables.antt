@@ -1,4 +1,5 @@
 -- The tables of the enumeration, worked out once for a network.
+-- Working.
 --
 --   Adjacency M adjacent      adjacent holds for each node v the nodes that an edge of M joins to v
 --   Incidence M incident      incident holds for each node v the edges that join v to a node

@@ -1,24 +1,40 @@
 -- The bytes of a network (the paper's section "Plan and bytes"), read and written. Bytes are shown in hexadecimal, all else in decimal.
+-- To believe.
 --
+-- A command:
 --   at s i                    the byte, or the value, at place i
---   missing n s, unfit c s    the refusals 1 and 2 of the command at the head of the bytes s
+--   missing n s               the refusal 1: fewer than n bytes are left
+--   unfit c s                 the refusal 2: the first byte is not the command c
 --   numberFault next k        the refusals 7 and 8 of an edge's number
---   sizeRefusal s, terminalsRefusal n s, edgeRefusal n next s, endRefusal s     the first refusal of each command, 0 if it has none
+--   sizeRefusal s             the first refusal of the command 50, 0 if it has none
+--   terminalsRefusal n s      that of 53, where there are n nodes
+--   edgeRefusal n next s      that of 43, where `next` is the least number allowed
+--   endRefusal s              that of 45
 --   answer r t                the refusal r as an answer, or t if there is none
---   sizeStep s, terminalsStep n s, edgeStep n next s     a command's answer: its values, the end, or its refusal
---   stepOf w s                the answer where w is awaited
---   Told, told t              what the answer t says by the paper: its number, and the command's values
+--   sizeStep s                the answer of the command 50: its values, or its refusal
+--   terminalsStep n s         that of 53
+--   edgeStep n next s         that of 43, or of 45, by the command byte
+--   stepOf w s                the answer where w is awaited  [working]
+--   Told                      what an answer says by the paper: its number, and the command's values
+--   told t                    what the answer t says
+--
+-- Reading:
 --   readerRefusals            the numbers that the reader can give
---   accept N, refuse r        the reader's two answers
+--   accept N                  the reader's answer where it accepts
+--   refuse r                  its answer where it refuses: the all-zero record
 --   ifTaken t goOn            refused by the number of the answer t, or on with its values
---   edges turns N next s, walk N next s     the edge commands and the end, read into N
+--   edges turns N next s      the edge commands and the end, read into N, at most so many commands
+--   walk N next s             the edge commands and the end, read into N
 --   decodeOf s                the bytes s read: the refusal's number beside the record
---   commandOf k s, edgeCommand N k     the bytes of slot k
+--
+-- Writing:
+--   commandOf k s             the bytes of slot k where it holds s
+--   edgeCommand N k           the bytes of slot k of N
 --   encodeOf N                the bytes of N
 --   encodeRefusal N lent      the writer's refusal
 --   encodedBy N lent          its answer: the refusal beside the count of bytes
 --   bytesAfter N lent         the lent buffer afterwards
---   WrittenTo plan lent n buffer       the first n bytes of a plan stand in a lent buffer
+--   WrittenTo plan lent n buffer       the first n bytes of a plan stand in a lent buffer  [working]
 use mathlib.Core.Bool.{cond, not}
 use mathlib.Core.List.{List, [], _∷_, _++_, flatMap}
 use mathlib.Core.Path.{_≡_}

@@ -1,7 +1,10 @@
 -- What the answers of the reader and the writer mean by the paper's rules.
+-- To believe.
 --
---   ReadMeans s r N          reading the bytes s gave the refusal r beside the record N: N has 64 slots; beside 0 it keeps the rules, and s are its bytes
---   WrittenMeans N r n after     writing N gave the refusal r and the count n and left `after`: N has 64 slots; beside 0 it reads back from the first n bytes
+--   ReadMeans s r N          reading the bytes s gave the refusal r beside the record N: N has 64 slots; beside 0 it keeps the rules, and s
+--                            are its bytes
+--   WrittenMeans N r n after     writing N gave the refusal r and the count n and left `after`: N has 64 slots; beside 0 it reads back from
+--                            the first n bytes
 use mathlib.Core.List.{List}
 use mathlib.Core.Path.{_≡_}
 use Prim.Native.Nat.{ℕ}

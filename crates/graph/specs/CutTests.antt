@@ -1,9 +1,10 @@
 -- Cuts, as they are computed: one reachable set for a cut, and one more for each member of a mincut.
+-- Computed: explained by severed-iff, cutTest-iff, mincutTest-iff (graph/proofs/Cuts).
 --
---   severed N c          without the edges of c the source does not reach the sink
---   cutTest N c          whether c is a cut
+--   severed N c          without the edges of c the source does not reach the sink  [computed: severed-iff (graph/proofs/Cuts)]
+--   cutTest N c          whether c is a cut  [computed: cutTest-iff (graph/proofs/Cuts)]
 --   allNeeded N c        no member of c can be dropped: without the others alone the source reaches the sink
---   mincutTest N c       whether c is a mincut
+--   mincutTest N c       whether c is a mincut  [computed: mincutTest-iff (graph/proofs/Cuts)]
 use mathlib.Core.Bool.{Bool, true, false, not}
 use Prim.Native.Nat.{ℕ, _^_}
 use lib.Bits.{bitAnd}

@@ -1,4 +1,5 @@
 -- Cuts, the relevant part and source sides of a network.
+-- To believe.
 --
 --   only N h             N with the edges of h alone present
 --   without N c          N without the edges of c

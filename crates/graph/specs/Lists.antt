@@ -1,4 +1,5 @@
 -- Lists of mincuts: rows of cuts beside rows of source sides (the paper's section "The list", and the words of the demands).
+-- To believe.
 --
 --   CompleteList N n cuts sides  the first n rows are the mincuts of N, rising, each beside its source side (demand 2)
 --   SameList n cuts m cuts′      n rows and m rows have equal cuts at equal places, and are equally many (demand 3's equal lists)

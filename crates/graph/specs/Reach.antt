@@ -1,14 +1,15 @@
 -- The reachable set (the paper's reach), as it is computed.
+-- Computed: explained by in-reach (graph/proofs/Reach).
 --
 --   addIf b t v          t with the member v where b holds, else t
 --   across N s k t       t with each end of the edge k whose other end is in s
 --   edgeList N           the present edges, rising
 --   roundOver N l s      s with every node that an edge of the list l joins to a node of s
 --   rounds N l n s       at most n such rounds from s on, fewer if one adds nothing
---   round N s            s with every node that a present edge joins to a node of s
+--   round N s            s with every node that a present edge joins to a node of s  [computed: in-round (graph/proofs/Reach)]
 --   reachOf N s          the nodes that are connected to some node of s: every round but the last adds a node
---   Closed N s           no present edge leads out of s
---   Bounded N            the edges of N have numbers below 64, and their ends are below the node count
+--   Closed N s           no present edge leads out of s  [working]
+--   Bounded N            the edges of N have numbers below 64, and their ends are below the node count  [working]
 use mathlib.Core.Bool.{Bool, true, false}
 use mathlib.Core.List.{List, foldr}
 use Prim.Native.Nat.{ℕ, zero, suc, _^_, _<_}

@@ -1,15 +1,16 @@
 -- The relevant part (the paper's useful part), source sides and their boundaries, as they are computed.
+-- Computed: explained by in-relevantNodes, in-relevantEdges (graph/proofs/Relevant); in-sourceSideOf (graph/proofs/Correspondence).
 --
---   chosen f n           the set of the numbers below n that pass the test f
---   edgesAt N c          the present edges with an end at c
---   edgesWithin N u      the present edges with both ends in u
---   reachIn N u h       what h reaches by walks that stay inside u
+--   chosen f n           the set of the numbers below n that pass the test f  [computed: in-chosen (graph/proofs/EdgeSets)]
+--   edgesAt N c          the present edges with an end at c  [computed: in-edgesAt (graph/proofs/EdgeSets)]
+--   edgesWithin N u      the present edges with both ends in u  [computed: in-edgesWithin (graph/proofs/EdgeSets)]
+--   reachIn N u h        what h reaches by walks that stay inside u
 --   past N c             c, and what source and sink, whichever is not c, reach without the edges at c
 --   pastAll N n          the nodes of N that are in past N c for each c below n
---   relevantNodes N      the relevant nodes
---   relevantEdges N      the relevant edges: those within the relevant nodes
---   sourceSideOf N c     the source side of c
---   boundaryOf N s       the relevant edges with exactly one end in s
+--   relevantNodes N      the relevant nodes  [computed: in-relevantNodes (graph/proofs/Relevant)]
+--   relevantEdges N      the relevant edges: those within the relevant nodes  [computed: in-relevantEdges (graph/proofs/Relevant)]
+--   sourceSideOf N c     the source side of c  [computed: in-sourceSideOf (graph/proofs/Correspondence)]
+--   boundaryOf N s       the relevant edges with exactly one end in s  [computed: in-boundaryOf (graph/proofs/Correspondence)]
 use mathlib.Core.Bool.{Bool, xor, _&&_, _||_}
 use Prim.Native.Nat.{ℕ, zero, suc, _-_, _^_}
 use lib.Bits.{bitAnd}

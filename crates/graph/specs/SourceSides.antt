@@ -1,9 +1,11 @@
 -- Source sides as sets of nodes (the paper's near sides): what sets they are, and which edges leave them.
+-- To believe.
 --
 --   Inside N P u v       a walk from u to v that stays where P holds
 --   HangsTogether N P    any two nodes where P holds are joined by a walk that stays there
 --   Beyond N s v         v is a relevant node outside s
---   SourceSide N s       s is a set of relevant nodes with source and without sink, and both s and the relevant nodes beyond it hang together
+--   SourceSide N s       s is a set of relevant nodes with source and without sink, and both s and the relevant nodes beyond it hang
+--                        together
 --   Crosses N s e        e has one end in s and one outside
 --   Boundary N s c       c is the set of the relevant edges that cross
 use mathlib.Core.List.{List, List·Memᴰ}

@@ -1,7 +1,8 @@
 -- What reading came to.
+-- To believe.
 --
 --   inputOf got n    what a read into n bytes came to that answered got: it failed if that is negative
---   Counted n r       the answer r counts at most n bytes, or says that a read failed
+--   Counted n r      the answer r counts at most n bytes, or says that a read failed
 use Prim.Native.Nat.{ℕ, _≤_, min}
 use lib.IntN.{ℤ, pos, negsuc}
 use Rattle.list.specs.declared.Input.{Input}

@@ -1,11 +1,14 @@
 -- The complete list of the mincuts of a network, and what the list call answers and leaves in the lent rows.
+-- To believe.
 --
---   mincuts N                the mincuts of N, rising: the complete list
+--   mincuts N                the mincuts of N, rising: the complete list  [computed: mincuts-complete (listing/proofs/Meaning)]
 --   sourceSides N            their source sides, each at the place of its mincut
 --   listRefusal N cuts sides     the call's refusal for a network and lent rows, 0 if there is none
 --   listedBy N cuts sides        its answer
---   cutRowsAfter N cuts sides, sideRowsAfter N cuts sides     the lent rows afterwards
---   ListMeans N cuts sides r n cuts′ sides′     what it means that the call, lent `cuts` and `sides`, gave the refusal r and the count n and left cuts′ and sides′
+--   cutRowsAfter N cuts sides    the lent cut rows afterwards
+--   sideRowsAfter N cuts sides   the lent side rows afterwards
+--   ListMeans N cuts sides r n cuts′ sides′     what it means that the call, lent `cuts` and `sides`, gave the refusal r and the count n
+--                            and left cuts′ and sides′
 use mathlib.Core.Bool.{not}
 use mathlib.Core.List.{List, map}
 use mathlib.Core.Logic.{_↔_}

@@ -1,21 +1,38 @@
 -- The record of a network (the paper's plan record) and its test.
+-- To believe.
 --
 --   r when b         the refusal r where b holds, else 0
 --   r then s         r unless it is 0, else s: the first fault decides
 --   among l r        whether r is 0 or one of the numbers of l
 --   unlessRefused r a b      a, or b where r is a refusal: what a call gives, and what lent memory holds after it
---   sizeFault, pairFault, terminalFault, endFault, absentFault      the rules of the paper's table "Who causes a refusal"
+--
+-- The rules of the paper's table "Who causes a refusal":
+--   sizeFault n      that of the point count (4)
+--   pairFault outside same n a b     that of two points below the point count n, else `outside`, that differ, else `same`
+--   terminalFault n a b      that of server and room (5, 6)
+--   endFault n a b   that of a cable's two ends (9, 10)
+--   absentFault a b  that of an absent cable's two ends (13)
+--
+-- The record test:
 --   slots            the numbers of the 64 edge slots, rising
 --   present N        the set of the edges present
---   hasEdge N k, firstEnd N k, secondEnd N k     whether edge k is present, and its two ends
---   Slot, slot N k   what slot k holds
---   slotFaultOf n s, slotFault N k, slotsFault N k n     the fault of a slot, and the first of the n slots from k on
---   recordRefusals   the numbers that the record test can give
+--   hasEdge N k      whether edge k is present
+--   firstEnd N k     its first end
+--   secondEnd N k    its second end
+--   Slot             what a slot holds: whether its edge is present, and its two ends
+--   slot N k         what slot k holds
+--   slotFaultOf n s  the fault of a slot that holds s, where there are n nodes
+--   slotFault N k    the fault of slot k
+--   slotsFault N k n the first fault of the n slots from k on
+--   recordRefusals   the numbers that the record test can give  [working]
 --   faultOf N        the record's first fault, 0 if it has none; a record is accepted if it is 0
---   assembled ..     a network from its fields
---   rewired N ..     N with other edges
---   bare n s t       the network of n nodes with source s, sink t and no edge; noNetwork the all-zero record
---   withEdge N k a b N with the edge k from a to b
+--
+-- Records:
+--   assembled nodes source sink edges first second     a network from its fields
+--   rewired N edges first second     N with other edges
+--   bare n s t       the network of n nodes with source s, sink t and no edge
+--   noNetwork        the all-zero record
+--   withEdge N k a b     N with the edge k from a to b
 --   Stored N         what the types of the code say of any record
 use mathlib.Core.Bool.{Bool, cond, _||_}
 use mathlib.Core.List.{List, [], _∷_, map, foldr}

@@ -1,4 +1,5 @@
 -- The paper's rules for a record, as propositions.
+-- To believe.
 --
 --   Rules N          N keeps them all: it is a plan within the rules
 --   FaultMeans N r   what the number r of the record test means

@@ -1,4 +1,5 @@
 -- What the list program prints (the paper's section "The list program").
+-- To believe.
 --
 --   listReport N     of a network: its list, or the refusal 12 if it has more minimal cuts than rows are lent
 --   reportOf s       of the bytes s: the reader's refusal, or the report of the network read

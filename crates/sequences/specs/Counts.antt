@@ -1,8 +1,9 @@
 -- How many members of a list pass a test, and lists that differ in the order of their members alone.
+-- To believe.
 --
---   bit b                1 if b holds, else 0
+--   bit b                1 if b holds, else 0  [working]
 --   countIf p l          how many members of l pass the test p
---   Permutation l m      each test is passed by as many members of l as of m; so each member stands in both equally often
+--   Permutation l m      each test is passed by as many members of l as of m; so each member stands in both equally often  [working]
 use mathlib.Core.Path.{_≡_}
 use mathlib.Core.Bool.{Bool, true, false}
 use mathlib.Core.List.{List, [], _∷_}

@@ -1,4 +1,5 @@
 -- Lists without repeats.
+-- To believe.
 --
 --   Distinct l       no element stands in l twice
 use mathlib.Core.List.{List, [], _∷_, List·Memᴰ}

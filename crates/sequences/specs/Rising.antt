@@ -1,4 +1,5 @@
 -- Lists of numbers in rising order.
+-- To believe.
 --
 --   Rising l         every number of l is below all that come after it
 use mathlib.Core.List.{List, Pairwise}

@@ -1,8 +1,10 @@
 -- Lists made from lists, and a test of all members.
+-- To believe.
 --
 --   range k n        the n numbers from k on
---   every f l        the test f holds of every member of l
+--   every f l        the test f holds of every member of l  [computed: T-every (sequences/proofs/Words)]
 --   passing f l      the numbers of l that pass the test f, in their order
+--                    [computed: mem-passing, passing-rising (sequences/proofs/Words)]
 --   onto l lent      lent rows or bytes after l was written onto the first of them
 use mathlib.Core.Bool.{Bool, true, false}
 use mathlib.Core.List.{List, [], _∷_, _++_}

@@ -1,4 +1,5 @@
 -- Quoted texts as bytes.
+-- To believe.
 --
 --   bytes t          the codes of the characters of t, each a byte
 use mathlib.Core.List.{List, [] as []ᴸ, _∷_ as _∷ᴸ_}

@@ -1,13 +1,20 @@
 -- What is printed of a list, as lists of bytes.
+-- To believe.
 --
+--   digit d          the byte of the digit d
+--   digits d n       the last d digits of n, without leading zeros
 --   decimal n        the decimal digits of n, without leading zeros
+--   spaced l         each number of l in decimal, after a space
 --   numbers l        the numbers of l in decimal with single spaces between them; a hyphen if there are none
 --   lineOf c s       the line of the cut c and its near side s: cables, space, bar, space, points
+--   wordLine word n  the line of a word, a space and the number n
 --   countLine n      the line that says how many cuts there are: the word cuts and n
 --   refusalLine n    the line that says why there is no list: the word refused and n
 --   rowLines cuts sides     the lines of the rows, each cut beside its side, as far as there are both
 --   listText cuts sides     a whole list: the line of the count, then the lines of the rows
---   maxLine, maxRows, maxText     how long a row's line can be, how many rows are printed, and how long their list can be
+--   maxLine          how long a row's line can be  [working]
+--   maxRows          how many rows are printed
+--   maxText          how long the text of so many rows can be  [working]
 use mathlib.Core.Bool.{true, false}
 use mathlib.Core.List.{List, [], _∷_, _++_}
 use Prim.Native.Nat.{ℕ, zero, suc, _+_, _*_, _/_, _%_}

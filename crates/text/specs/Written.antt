@@ -1,6 +1,8 @@
 -- Text in lent memory.
+-- To believe.
 --
 --   Wrote b at t a r       the bytes b have become a by writing t byte by byte from the offset at on, and r is the offset after it
+--                          [working]
 --   Printed t b a r        the bytes b have become a: t stands in front, what comes after it is as it was, and r is the length of t
 use mathlib.Core.Path.{_≡_}
 use mathlib.Core.List.{List, _++_}

@@ -1,4 +1,5 @@
 -- The width of a row is the number of edges in its cut; the table counts the rows of each width.
+-- To believe.
 --
 --   tabulate n f         f 0, f 1, .., f (n - 1)
 --   sum l                the sum of the numbers of l
