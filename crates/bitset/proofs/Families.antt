@@ -1,5 +1,7 @@
 -- Families of sets and their blockers: shrinking to a least set, and that the blocker of a clutter's blocker is the clutter.
 -- Assumes nothing.
+--
+--   Decided F g      the sets of F lie inside g, and it is decided whether a set holds one of them
 use mathlib.Core.Path.{_≡_, refl, sym}
 use mathlib.Core.Logic.{inl, inr, _↔_, Dec·not-not, Dec·not, Dec·of-iff, Iff·symm, Iff·trans}
 use Prim.Native.Nat.{ℕ, zero, suc, _^_, _<_}

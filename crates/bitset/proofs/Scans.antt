@@ -1,5 +1,9 @@
 -- Scans: the members of a set are gone through one by one, the lowest first, and what was done for each is known at the end.
 -- Assumes nothing.
+--
+--   Less s k t       the set t is s without its member k
+--   Done P all left  of all members but those that are left, P holds
+--   Gathered Comes base all left acc     the set acc holds base and what comes with each member but those that are left
 use mathlib.Core.Path.{_≡_, refl}
 use mathlib.Core.Bool.{false, not, _&&_}
 use mathlib.Core.Logic.{_⊎_, inl, inr, _↔_}

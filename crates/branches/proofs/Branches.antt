@@ -1,5 +1,8 @@
 -- The branches of the enumeration: what each part of a branch holds, and that a join and a leaving-out keep this.
 -- Assumes a sound network.
+--
+--   Grown N b        the parts of the branch b are what they are to be
+--   Open N b         the branch b may be entered: the sink reaches all that is left out
 use mathlib.Core.Path.{_≡_, refl, sym, ap, _∙_}
 use mathlib.Core.Logic.{inl, inr, _↔_}
 use Prim.Native.Nat.{ℕ, _^_}

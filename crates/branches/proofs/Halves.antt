@@ -1,5 +1,8 @@
--- The source sides of a branch: each belongs to one half, a branch that is not open has none, and one without a candidate has its side alone.
+-- The source sides of a branch: each belongs to one half, a branch that is not open has none, and one without a candidate has its side
+-- alone.
 -- Assumes a sound network.
+--
+--   OfBranch N b t   the source side t belongs to the branch b: it holds all that has joined and nothing that is left out
 use mathlib.Core.Path.{_≡_, refl}
 use mathlib.Core.Logic.{_⊎_, inl, inr, _↔_}
 use Prim.Native.Nat.{ℕ}

@@ -1,5 +1,9 @@
 -- The rows of a branch are exactly its source sides, each once and beside its boundary; an open branch has at least one.
 -- Assumes a sound network.
+--
+--   IsRow N b r          the row r is one of the branch b: its side is a source side of b, and its cut is the boundary of that
+--   RowsExactly N b l    the list l has exactly the rows of the branch b
+--   Listed N S b l       what holds of the list of the rows of an open branch: it has exactly these, no cut twice, and at least one
 use mathlib.Core.Path.{_≡_, refl, sym, ap, _∙_}
 use mathlib.Core.Bool.{Bool, true, false}
 use mathlib.Core.List.{List, [], _∷_, _++_, map-append, List·Memᴰ, List·Memᴰ·head, List·Memᴰ·not-nil, List·Memᴰ·append-cases, List·Memᴰ·eq-of-singleton, Memᴰ·append-left, Memᴰ·append-right, Memᴰ·of-map}

@@ -1,5 +1,7 @@
 -- The edges within a set of nodes, and the nodes past one node, as the code finds them.
 -- Assumes nothing of a network but what is said.
+--
+--   Within N u e v   the edge e, as v, has both ends in u
 use mathlib.Core.Path.{_≡_, refl, ap, _∙_}
 use mathlib.Core.Bool.{not, _&&_, _||_}
 use mathlib.Core.Logic.{_⊎_, inl, inr, _↔_}

@@ -1,5 +1,7 @@
 -- Rounds as the code makes them: on words of 32 bits, which hold every node of an accepted network.
 -- Assumes nothing; the last section assumes a sound network.
+--
+--   BesideFits N s e v   the node v fits, and the edge e joins it to a node of s
 use mathlib.Core.Path.{_≡_, sym, _∙_}
 use mathlib.Core.Logic.{_⊎_, inl, inr, _↔_}
 use Prim.Native.Nat.{ℕ, _%_, _^_, _<_}

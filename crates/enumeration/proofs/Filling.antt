@@ -1,5 +1,7 @@
 -- The tables as they are filled, edge by edge: each is right for the network with the edges that are gone through.
 -- Assumes that the ends of the edge have a place in the table.
+--
+--   with-at t a b    the table t with the member b more at place a
 use mathlib.Core.Path.{_≡_, refl, sym, _∙_}
 use mathlib.Core.List.{List}
 use mathlib.Core.Logic.{_⊎_, inl, inr, _↔_}

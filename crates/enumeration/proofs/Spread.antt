@@ -1,5 +1,10 @@
 -- What a node reaches inside a set, found node by node: each node found finds in its turn those beside it.
 -- Assumes, at the end, that the table is that of a network that keeps the bounds of edges and ends.
+--
+--   Kept near within t       the set t holds, with each of its nodes, those beside it inside the set `within`
+--   Spread near within start reached fresh     the nodes reached are none but those that must be; of those that are no longer fresh, all
+--                            beside them inside the set are reached
+--   Turn beside within reached fresh v found reached′ fresh′     the fresh node v finds the nodes beside it that were not reached
 use mathlib.Core.Path.{_≡_, refl}
 use mathlib.Core.Bool.{false, not, _&&_, _||_}
 use mathlib.Core.List.{List}

@@ -1,5 +1,7 @@
 -- No accepted plan is longer than 262 bytes, and one has that many.
 -- Assumes nothing.
+--
+--   longest          the bytes of two points joined by all 64 cables
 use mathlib.Core.List.{List, [], _∷_, _++_, flatMap}
 use mathlib.Core.Path.{_≡_, refl}
 use Prim.Native.Nat.{ℕ, _≤_}

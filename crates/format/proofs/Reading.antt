@@ -1,5 +1,8 @@
 -- What the reader accepts: the bytes are the record's own, and the record passes its test.
 -- Assumes nothing.
+--
+--   Plan s N         what a plan's bytes say of the record that was read from them
+--   Answer d         a refusal is one of the reader's, and beside it stands the all-zero record
 use mathlib.Core.Bool.{true, false}
 use mathlib.Core.List.{List, [], _∷_, _++_, flatMap}
 use mathlib.Core.Path.{_≡_, refl, ap, ap₂, sym, subst, _∙_}

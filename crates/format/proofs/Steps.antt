@@ -1,5 +1,10 @@
 -- What each answer of a step tells of the bytes, and which bytes give it.
 -- Assumes nothing.
+--
+--   command c k s values     the refusal of the command c with k bytes, from that of its values
+--   SizeView s               the answer of the command 50, with what it tells of the bytes
+--   TerminalsView n s        that of 53
+--   EdgeView n next s        that of 43, or of 45
 use mathlib.Core.Bool.{Bool, true, false, not}
 use mathlib.Core.List.{List, [], _∷_}
 use mathlib.Core.Path.{_≡_, refl, ap, _∙_}

@@ -1,5 +1,7 @@
 -- The walk over the commands, a command at a time: the only laws of `edges` that other proofs use.
 -- Assumes nothing.
+--
+--   HeaderView s     what the first two commands tell of the bytes: the values that they have, or the refusal
 use mathlib.Core.Bool.{not}
 use mathlib.Core.List.{List, [], _∷_}
 use mathlib.Core.Path.{_≡_, refl, ap, sym, subst, _∙_}

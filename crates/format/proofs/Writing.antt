@@ -1,5 +1,7 @@
 -- Reading what was written gives the same record, and how long a plan can be.
 -- Assumes nothing.
+--
+--   rest N k n       the commands of the n slots from k on, and the end
 use mathlib.Core.Bool.{Bool, true, false, cond, _&&_, _||_, or-false, or-true, and-false}
 use mathlib.Core.List.{List, [], _∷_, _++_, flatMap, append-assoc, append-nil}
 use mathlib.Core.Logic.{_⊎_, inl, inr}

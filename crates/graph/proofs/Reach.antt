@@ -1,5 +1,7 @@
 -- The reachable set is what it is to be: a round adds the neighbours, and the rounds end at the nodes connected to the start.
 -- Assumes that the edges have numbers below 64 and ends below the node count.
+--
+--   Beside N s e v       the node v is joined by the edge e to a node of s
 use mathlib.Core.Path.{_≡_, refl, sym}
 use mathlib.Core.Bool.{Bool, true, false}
 use mathlib.Core.List.{List, [], _∷_, List·Memᴰ, List·Memᴰ·head, List·Memᴰ·tail, List·Memᴰ·not-nil, List·Memᴰ·cases-cons}

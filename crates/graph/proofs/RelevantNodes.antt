@@ -1,5 +1,7 @@
 -- A node is relevant exactly if it escapes to source or sink past every other node.
 -- Assumes nothing.
+--
+--   Escapes N c v    a walk from v to source or sink that does not meet c
 use mathlib.Core.Path.{_≡_, refl, sym}
 use mathlib.Core.List.{List, [], _∷_, _++_, List·Memᴰ, List·Memᴰ·head, List·Memᴰ·tail, List·Memᴰ·cases-cons, List·Memᴰ·append-cases, List·Memᴰ·eq-of-singleton, Memᴰ·cast}
 use mathlib.Core.Logic.{_⊎_, inl, inr, ⊎-swap, _↔_, _≢_, Ne·symm}

@@ -1,5 +1,8 @@
 -- Sound networks: what the record test says of the nodes and edges of an accepted record.
 -- Assumes nothing.
+--
+--   Sound N          edges below 64 with ends below the node count, no loop, at most 32 nodes, and two terminals among them
+--                    [working: accepted-sound (graph/proofs/Sound)]
 use mathlib.Core.Path.{_≡_, sym, _∙_}
 use mathlib.Core.Logic.{inl, inr, _≢_}
 use Prim.Native.Nat.{ℕ, _≤_, _<_}

@@ -1,5 +1,11 @@
 -- Walks: how they are joined, turned round, split at a node and freed of loops, and what nodes and edges they then have.
 -- Assumes nothing.
+--
+--   taken p              the edges that the steps p take, in order
+--   reached p            the nodes that the steps p go to, in order
+--   back u p             the steps that lead back along the steps p from u
+--   Split N u p v x      the walk p from u to v in two parts: up to the node x, and on from it
+--   Shortened N u p v    the walk p from u to v freed of loops: a simple path that makes steps of p alone
 use mathlib.Core.Path.{_≡_, refl, sym, ap, _∙_}
 use mathlib.Core.List.{List, [], _∷_, _++_, map, map-append, List·Memᴰ, List·Memᴰ·head, List·Memᴰ·tail, List·Memᴰ·not-nil, List·Memᴰ·cases-cons, List·Memᴰ·append-cases, List·Memᴰ·eq-of-singleton, Memᴰ·append-left, Memᴰ·append-right, Memᴰ·cast, Memᴰ·map, Memᴰ·of-map}
 use mathlib.Core.Logic.{_⊎_, inl, inr, ⊎-swap, ⊎-map, _↔_, Iff·rfl}

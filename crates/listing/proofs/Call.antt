@@ -1,5 +1,7 @@
 -- What the list call has to answer and to leave, from what its steps do: a refusal and the rows untouched, or the rows filled and sorted.
 -- Assumes an accepted record where rows are enumerated.
+--
+--   Answered N cuts sides r cuts′ sides′     the answer and the rows left are those of the call
 use mathlib.Core.Path.{_≡_, refl, sym, ap, _∙_}
 use mathlib.Core.List.{List}
 use Prim.Native.Nat.{ℕ, zero, suc, _-_, _≤_, _<_}

@@ -1,5 +1,7 @@
 -- The refusals of the list call: each is given exactly if its own condition holds and no earlier fault stands.
 -- Assumes nothing.
+--
+--   Case N cuts sides    the four cases of a call
 use mathlib.Core.Path.{_≡_, refl, sym, _∙_}
 use mathlib.Core.Bool.{Bool, not}
 use mathlib.Core.List.{List}

@@ -1,5 +1,8 @@
 -- The 64 slots of a record: what is stored in one, and what the record test makes of all of them.
 -- Assumes nothing.
+--
+--   empty            what an empty slot holds
+--   Accepted N       size, terminals and each slot of N have no fault
 use mathlib.Core.Bool.{true, false, _||_, or-false, or-true}
 use mathlib.Core.List.{map, foldr}
 use mathlib.Core.Path.{_≡_, refl, ap, _∙_}

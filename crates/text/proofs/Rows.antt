@@ -1,5 +1,7 @@
 -- The lines of the first n rows, row by row.
 -- Assumes nothing.
+--
+--   linesFrom cuts sides n i     the lines of those among the first n rows that come from row i on
 use mathlib.Core.Path.{_≡_, refl, ap}
 use mathlib.Core.List.{List, [], _++_}
 use Prim.Native.Nat.{ℕ, _+_, _≤_, _<_}

@@ -1,5 +1,8 @@
 -- What has been written, one text after another.
 -- Assumes nothing.
+--
+--   Left b at t a r u      of the text t to be written into b from the offset at on, u is left: b has become a, and r is the offset after
+--                          what is written
 use mathlib.Core.Path.{_≡_, refl, ap, _∙_}
 use mathlib.Core.List.{List, [], _∷_, _++_, append-nil, append-assoc}
 use Prim.Native.Nat.{ℕ, _+_, _≤_, _<_}

@@ -1,4 +1,5 @@
--- What the width table holds, one row after another: each count is the number of rows of its width, and the counts sum to the number of rows.
+-- What the width table holds, one row after another: each count is the number of rows of its width, and the counts sum to the number
+-- of rows.
 -- Assumes nothing.
 use mathlib.Core.Path.{_≡_, refl, sym, ap, _∙_}
 use mathlib.Core.Bool.{Bool}

@@ -1,5 +1,7 @@
 -- The writer as a whole: what it answers and leaves in the buffer on each way out.
 -- Assumes nothing.
+--
+--   Answered N l answer after     for N and the buffer l the writer gives this answer and leaves `after`
 use mathlib.Core.List.{List, [], _∷_, _++_}
 use mathlib.Core.Path.{_≡_, refl, ap, sym, _∙_}
 use Prim.Native.Nat.{ℕ, zero, suc, _+_, _-_, _≤_, _<_, zero-le}
