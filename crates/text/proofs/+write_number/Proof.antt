@@ -45,7 +45,8 @@ write-number-slice-write-out t c = search (needs, room-small)
 write-number-add-result : (t : ℕ) → write-number-lts.Need-add-result (write-number-claims t) (write-number-at t) write-number.Post
 write-number-add-result t c = search needs
 
-write-number-write-number-requires : (t : ℕ) → write-number-lts.Need-write-number-requires (write-number-claims t) (write-number-at t) write-number.Post
+write-number-write-number-requires : (t : ℕ)
+    → write-number-lts.Need-write-number-requires (write-number-claims t) (write-number-at t) write-number.Post
 write-number-write-number-requires t c κs = (search needs, search (needs, room-large, le-of-lt))
 
 write-number-cast-out-2 : (t : ℕ) → write-number-lts.Need-cast-out-2 (write-number-claims t) (write-number-at t) write-number.Post
@@ -54,12 +55,14 @@ write-number-cast-out-2 t c = search needs
 write-number-add-out-2 : (t : ℕ) → write-number-lts.Need-add-out-2 (write-number-claims t) (write-number-at t) write-number.Post
 write-number-add-out-2 t c = search needs
 
-write-number-slice-write-out-2 : (t : ℕ) → write-number-lts.Need-slice-write-out-2 (write-number-claims t) (write-number-at t) write-number.Post
+write-number-slice-write-out-2 : (t : ℕ)
+    → write-number-lts.Need-slice-write-out-2 (write-number-claims t) (write-number-at t) write-number.Post
 write-number-slice-write-out-2 t c = search (needs, room-large, wrote-below)
 
 write-number-add-result-2 : (t : ℕ) → write-number-lts.Need-add-result-2 (write-number-claims t) (write-number-at t) write-number.Post
 write-number-add-result-2 t c =
-    let h : c .before .before .write-number .result < length (c .before .before .write-number .last .0) = search (needs, room-large, wrote-below) in
+    let tenth = c .before .before .write-number in
+    let h : tenth .result < length (tenth .last .0) = search (needs, room-large, wrote-below) in
     omega arith
 
 write-number-same-length : (t : ℕ) → write-number-lts.Need-same-length (write-number-claims t) (write-number-at t) write-number.Post

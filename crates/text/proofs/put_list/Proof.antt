@@ -22,8 +22,9 @@ write-rows-requires c κs =
 
 returns : tie.Need-returns
 returns c =
-    list-printed (search needs) (c .before .before .before .before .write-word .ensures) _ _ _
-    (c .before .before .before .before .before .before .before .rows-up-to .ensures) (search needs) (search needs) (c .write-rows .ensures)
+    let word = c .before .before .before .before in
+    let count = word .before .before .before .rows-up-to in
+    list-printed (search needs) (word .write-word .ensures) _ _ _ (count .ensures) (search needs) (search needs) (c .write-rows .ensures)
 
 pub put-list-spec : {M : Type 1} → statement M
 put-list-spec =

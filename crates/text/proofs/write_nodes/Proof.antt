@@ -15,7 +15,9 @@ same-length : tie.Need-same-length
 same-length c = search needs
 
 returns : tie.Need-returns
-returns c = rw (members-past 32 32 (c .before .before .before .before .before .before .args .set .0) (search needs)) at (c .before .before .write-numbers .ensures)
+returns c =
+    let call = c .before .before in
+    rw (members-past 32 32 (call .before .before .before .before .args .set .0) (search needs)) at (call .write-numbers .ensures)
 
 pub write-nodes-spec : {M : Type 1} → statement M
 write-nodes-spec = tie.close (tie.spec cast-t6 write-numbers-requires same-length returns)

@@ -19,7 +19,8 @@ use Rattle.text.proofs.write_numbers.Tie as tie
 
 -- Of some numbers the lowest comes first, and then those of the rest.
 first : (c : tie.Else1)
-    → members 64 (c .before .before .args .set .0) ≡ trailingZeros 64 (c .before .before .args .set .0) ∷ members 64 (bitAnd (c .before .before .args .set .0) (c .before .before .args .set .0 - 1))
+    → let set = c .before .before .args .set .0 in
+    members 64 set ≡ trailingZeros 64 set ∷ members 64 (bitAnd set (set - 1))
 first c = members-lowest 64 (search needs) (search needs)
 
 slice-write-out : tie.Need-slice-write-out
@@ -44,15 +45,18 @@ write-number-requires : tie.Need-write-number-requires
 write-number-requires c κs = omega (arith, length-numbers (first (c .before)))
 
 write-spaced-requires : tie.Need-write-spaced-requires
-write-spaced-requires c κs = omega (arith, length-numbers (first (c .before .before .before .before .before)), wrote-length (c .before .before .before .write-number .ensures))
+write-spaced-requires c κs =
+    let one = c .before .before .before in
+    omega (arith, length-numbers (first (one .before .before)), wrote-length (one .write-number .ensures))
 
 same-length-2 : tie.Need-same-length-2
 same-length-2 c = search needs
 
 returns-2 : tie.Need-returns-2
 returns-2 c =
-    rw (numbers-cons (first (c .before .before .before .before .before .before .before .before)))
-    (wrote-text (c .before .before .before .before .before .before .write-number .ensures) (c .before .before .write-spaced .ensures))
+    let two = c .before .before in
+    let one = two .before .before .before .before in
+    rw (numbers-cons (first (one .before .before))) (wrote-text (one .write-number .ensures) (two .write-spaced .ensures))
 
 pub write-numbers-spec : {M : Type 1} → statement M
 write-numbers-spec =

@@ -1,5 +1,5 @@
--- `write_text` meets its contract. The loop's invariant: the first i bytes of the text are written. The measure is what is left of the text.
--- Assumes nothing.
+-- `write_text` meets its contract. The loop's invariant: the first i bytes of the text are written.
+-- The measure is what is left of the text. Assumes nothing.
 use mathlib.Core.Path.{_≡_}
 use Prim.Native.Nat.{_-_, _≤_}
 use lib.ListN.{length, take}
