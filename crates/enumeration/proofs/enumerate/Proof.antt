@@ -32,11 +32,13 @@ blank-requires c κs = search needs
 
 join-requires : tie.Need-join-requires
 join-requires c κs =
-    let s = c .before .before .before .before .before .before .before .before .before .before .before .before in
+    let b = c .before .before .before .before in
+    let f = b .before .before .before in
+    let s = f .before .before .before .before .before in
     let N = s .args .network in
     let S = sound s in
-    let none = c .before .before .before .before .blank .ensures N (s .pre .1) refl in
-    (omega (arith, S .source-lt, S .small), source-free N S (c .before .before .before .before .blank .result) none, s .pre .3)
+    let none = b .blank .ensures N (s .pre .1) refl in
+    (omega (arith, S .source-lt, S .small), source-free N S (b .blank .result) none, s .pre .3)
 
 same-length : tie.Need-same-length
 same-length c = search needs
@@ -47,19 +49,23 @@ same-length-2 c = search needs
 returns : tie.Need-returns
 unfolding only
 returns c =
-    let s = c .before .before .before .before .before .before .before .before .before .before .before .before .before .before .before .before .before in
+    let j = c .before .before .before .before in
+    let b = j .before .before .before .before .before in
+    let f = b .before .before .before in
+    let s = f .before .before .before .before .before in
     let N = s .args .network in
     let S = sound s in
-    let first = c .before .before .before .before .before .before .before .before .before .blank .result in
-    let none = c .before .before .before .before .before .before .before .before .before .blank .ensures N (s .pre .1) refl in
-    let filled = c .before .before .before .before .before .before .before .before .before .before .before .before .fill-tables in
+    let first = b .blank .result in
+    let none = b .blank .ensures N (s .pre .1) refl in
+    let filled = f .fill-tables in
     let tables : Tables (relevantNetwork N) (filled .last .1 .1 .0) (filled .last .1 .1 .1 .0) = record {
       bounded = part-bounded N S;
       nodes = rw (s .pre .2) at (filled .ensures .0);
       edges = rw (s .pre .2) at (filled .ensures .1);
     } in
+    let fed = blank-fed N S first none in
     put-all N S first none _ _ _ _ _ _ _
-    (c .before .before .before .before .join .ensures .1 (relevantNetwork N) tables refl (blank-fed N S first none) (λ off. absurd (off (source-rest N S first none))))
+    (j .join .ensures .1 (relevantNetwork N) tables refl fed (λ off. absurd (off (source-rest N S first none))))
 
 pub enumerate-spec : {M : Type 1} → statement M
 enumerate-spec =

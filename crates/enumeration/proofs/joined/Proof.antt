@@ -43,18 +43,21 @@ element-copy-out-t21 c = search needs
 returns : tie.Need-returns
 unfolding joined
 returns c =
-    let a = c .before .before .before .before .before .before .before .before .before .args in
+    let u = c .before .before .before in
+    let r = u .before .before in
+    let w = r .before .before .before in
+    let a = w .before .args in
     let b : Branch = a .b in
     let v : ℕ = a .v in
-    let h = c .before .before .before .before .before .before .before .before .before .pre in
-    let side = with-member 32 (b .side .0) v _ h (c .before .before .before .before .before .before .before .before .with .ensures) in
-    let undecided = without-minus (b .undecided .0) v _ (c .before .before .before .before .before .before .without .ensures) in (
+    let h = w .before .pre in
+    let side = with-member 32 (b .side .0) v _ h (w .with .ensures) in
+    let undecided = without-minus (b .undecided .0) v _ (r .before .without .ensures) in (
       undecided,
       λ M t e there whole.
-          let rest = c .before .before .before .before .before .rest-without .ensures M (t .bounded) (t .nodes) there (λ off. rw e (whole off))
+          let rest = r .rest-without .ensures M (t .bounded) (t .nodes) there (λ off. rw e (whole off))
           ∙ ap (reachIn M (b .rest .0 ∖ 2 ^ v)) e in
           let around = with-member 32 _ v _ h (c .before .before .with2 .ensures)
-          ∙ ap (λ (x : ℕ). insert x v) (union-or (b .around .0) _ _ (c .before .before .before .union .ensures))
+          ∙ ap (λ (x : ℕ). insert x v) (union-or (b .around .0) _ _ (u .union .ensures))
           ∙ beside-round M (t .bounded) (a .adjacent .now) (t .nodes) v h (b .around .0) in
           let cut = ap (bitXor (b .cut .0)) (at-edges M (t .bounded) (a .incident .now) (t .edges) v h) in
           λ i. record {

@@ -16,10 +16,11 @@ without-requires c κs = search needs
 returns : tie.Need-returns
 unfolding leftOut
 returns c =
-    let s = c .before .before .before .before .before .before in
+    let w = c .before .before .before in
+    let s = w .before .before .before in
     let b : Branch = s .args .b in
-    let e = with-member 32 (b .out .0) (s .args .v) _ (s .pre) (c .before .before .before .before .with .ensures) in
-    let f = without-minus (b .undecided .0) (s .args .v) _ (c .before .before .before .without .ensures) in
+    let e = with-member 32 (b .out .0) (s .args .v) _ (s .pre) (w .before .with .ensures) in
+    let f = without-minus (b .undecided .0) (s .args .v) _ (w .without .ensures) in
     λ i. record {
       side = b .side;
       out = record { 0 = e i };

@@ -1,6 +1,7 @@
 -- `reach_in` meets its contract. The invariant: what is reached has to be, and beyond what is fresh nothing is missing.
 -- The measure is how far the nodes that are reached and not fresh are, as a number, from the largest word. Assumes nothing.
-use Prim.Native.Nat.{_-_, _^_, _<_}
+use mathlib.Core.List.{List}
+use Prim.Native.Nat.{ℕ, _-_, _^_, _<_}
 use native.Mathlib.Nat.{lt-of-le-of-lt}
 use native.Mathlib.Omega.{arith}
 use borrow.Author.Needs.{needs}
@@ -14,20 +15,29 @@ use Rattle.enumeration.proofs.Spread.{Spread, Turn, turn-of, spread-fir
 use Rattle.enumeration.proofs.reach_in.Statement.{statement}
 use Rattle.enumeration.proofs.reach_in.Tie as tie
 
+-- What holds at each turn: what is reached is a word, and the search has spread that far.
+record Reached (adjacent : List ℕ) (within start reached fresh : ℕ) : Type 0 where
+  word : reached < 2 ^ 32
+  spread : Spread adjacent within start reached fresh
+
 abbrev Inv-loop : tie.InvT-loop
-Inv-loop near within start reached₀ fresh₀ reached fresh = (reached .0 < 2 ^ 32) × Spread near (within .0) start (reached .0) (fresh .0)
+Inv-loop adjacent within start reached₀ fresh₀ reached fresh = Reached adjacent (within .0) start (reached .0) (fresh .0)
 
 abbrev μ-loop : tie.MeasureT-loop
-μ-loop near within start reached₀ fresh₀ reached fresh = 2 ^ 32 - (reached .0 ∖ fresh .0)
+μ-loop adjacent within start reached₀ fresh₀ reached fresh = 2 ^ 32 - (reached .0 ∖ fresh .0)
+
+-- The lowest fresh node is found, seen from the end of its turn.
+abbrev found : tie.After-union2 Inv-loop μ-loop → tie.After-lowest Inv-loop μ-loop
+found c = c .before .before .before .before .before .before .before
 
 single-requires : tie.Need-single-requires Inv-loop μ-loop
 single-requires c κs = search needs
 
 loop-holds : tie.Need-loop-holds Inv-loop μ-loop
-loop-holds c = (
-  search needs,
-  spread-first (c .before .args .adjacent .now) (c .before .args .within .0) (c .before .args .start) (c .single .result .0) (in-alone (c .before .args .start) (c .single .result .0) (c .single .ensures)),
-)
+loop-holds c =
+    let a = c .before .args in
+    let alone = in-alone (a .start) (c .single .result .0) (c .single .ensures) in
+    record { word = search needs; spread = spread-first (a .adjacent .now) (a .within .0) (a .start) (c .single .result .0) alone }
 
 lowest-requires : tie.Need-lowest-requires Inv-loop μ-loop
 lowest-requires c κs = search needs
@@ -58,38 +68,44 @@ union-requires-2 c κs = search needs
 
 -- The turn of the lowest fresh node.
 turn : (c : tie.After-union2 Inv-loop μ-loop)
-    → Turn (getD (c .before .before .before .before .before .before .before .before .before .before .args .adjacent .now) (c .before .before .before .before .before .before .before .lowest .result) 0)
-    (c .before .before .before .before .before .before .before .before .before .before .args .within .0)
-    (c .before .before .before .before .before .before .before .before .loop .reached .0)
-    (c .before .before .before .before .before .before .before .before .loop .fresh .0)
-    (c .before .before .before .before .before .before .before .lowest .result)
+    → let k = found c .lowest .result in
+    let l = found c .before .loop in
+    let a = found c .before .before .before .args in
+    Turn (getD (a .adjacent .now) k 0) (a .within .0) (l .reached .0) (l .fresh .0) k
     (c .before .before .before .difference .result .0) (c .before .before .union .result .0) (c .union2 .result .0)
 turn c =
-    let low = c .before .before .before .before .before .before .before .lowest in
-    turn-of _ _ _ _ _ (c .before .before .before .before .intersection .result .0) _ (c .before .without-lowest .result .0) _ _
-    (less-lowest 32 _ _ _ (low .ensures) (search needs) (c .before .without-lowest .ensures _ (low .ensures)))
-    (c .before .before .before .before .intersection .ensures) (c .before .before .before .difference .ensures) (c .before .before .union .ensures) (c .union2 .ensures)
+    let low = found c .lowest .ensures in
+    let new = c .before .before .before in
+    let beside = new .before .intersection in
+    let less = less-lowest 32 _ _ _ low (search needs) (c .before .without-lowest .ensures _ low) in
+    turn-of _ _ _ _ _ (beside .result .0) _ (c .before .without-lowest .result .0) _ _ less
+    (beside .ensures) (new .difference .ensures) (c .before .before .union .ensures) (c .union2 .ensures)
 
 loop-less : tie.Need-loop-less Inv-loop μ-loop
 loop-less c =
-    let l = c .before .before .before .before .before .before .before .before .loop in
-    let more = settled-more _ _ _ (l .reached .0) (l .fresh .0) _ _ (c .before .before .union .result .0) (c .union2 .result .0) (l .inv .1) (turn c) in
-    let within = subset-le (c .before .before .union .result .0 ∖ c .union2 .result .0) (c .before .before .union .result .0) (minus-⊆ _ _) in
-    let small : c .before .before .union .result .0 < 2 ^ 32 = search needs in
+    let l = found c .before .loop in
+    let reached = c .before .before .union .result .0 in
+    let fresh = c .union2 .result .0 in
+    let more = settled-more _ _ _ (l .reached .0) (l .fresh .0) _ _ reached fresh (l .inv .spread) (turn c) in
+    let within = subset-le (reached ∖ fresh) reached (minus-⊆ _ _) in
+    let small : reached < 2 ^ 32 = search needs in
     omega (arith, more, within, small)
 
 loop-again : tie.Need-loop-again Inv-loop μ-loop
 loop-again c =
-    let l = c .before .before .before .before .before .before .before .before .loop in
-    (search needs, spread-next _ _ _ (l .reached .0) (l .fresh .0) _ _ _ _ (l .inv .1) (turn c))
+    let l = found c .before .loop in
+    record { word = search needs; spread = spread-next _ _ _ (l .reached .0) (l .fresh .0) _ _ _ _ (l .inv .spread) (turn c) }
 
 returns : tie.Need-returns Inv-loop μ-loop
 returns c M B table there =
     let a = c .before .before .before .before .args in
     let l = c .before .before .loop in
-    let small : l .fresh .0 < 2 ^ 32 = lt-of-le-of-lt (subset-le (l .fresh .0) (l .reached .0) (l .inv .1 .part)) (l .inv .0) in
-    spread-last (a .adjacent .now) (a .within .0) (a .start) (l .reached .0) (l .fresh .0) (l .inv .1)
-    (none-left 32 (l .fresh .0) (l .fresh .0) _ small (⊆-refl (l .fresh .0)) (c .before .lowest .ensures) (c .if1 .taken)) (l .inv .0) (search needs) M B table there
+    let reached = l .reached .0 in
+    let fresh = l .fresh .0 in
+    let inv = l .inv in
+    let small : fresh < 2 ^ 32 = lt-of-le-of-lt (subset-le fresh reached (inv .spread .part)) (inv .word) in
+    let none = none-left 32 fresh fresh _ small (⊆-refl fresh) (c .before .lowest .ensures) (c .if1 .taken) in
+    spread-last (a .adjacent .now) (a .within .0) (a .start) reached fresh (inv .spread) none (inv .word) (search needs) M B table there
 
 pub reach-in-spec : {M : Type 1} → statement M
 reach-in-spec =
