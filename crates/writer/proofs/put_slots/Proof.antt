@@ -1,6 +1,7 @@
--- `writer::put_slots` meets its contract. The invariant: the plan is written up to here, and what is left are the commands from slot k on.
--- The measure is the number of slots left. Assumes nothing.
+-- `writer::put_slots` meets its contract. The invariant: the plan is written up to here, and what is left are the commands
+-- from slot k on. The measure is the number of slots left. Assumes nothing.
 use mathlib.Core.Path.{_≡_, sym, ap, _∙_}
+use mathlib.Core.List.{List}
 use mathlib.Core.Bool.{Bool}
 use Rattle.network.specs.declared.Network.{Network}
 use Prim.Native.Nat.{ℕ, _-_, _≤_}
@@ -14,15 +15,25 @@ use Rattle.format.proofs.Writing.{rest, rest-all, rest-none, written-length, sl
 use Rattle.writer.proofs.put_slots.Statement.{statement}
 use Rattle.writer.proofs.put_slots.Tie as tie
 
+-- What holds at each turn.
+record Turn (network : Network) (plan₀ : List ℕ) (at : ℕ) (plan : List ℕ) (k : ℕ) : Type 0 where
+  -- k is a slot, or past the last.
+  slot : k ≤ 64
+  -- The plan is written up to `at`,
+  written : WrittenTo (encodeOf network) plan₀ at plan
+  -- and the commands of the slots from k on are left.
+  left : drop at (encodeOf network) ≡ rest network k (64 - k)
+
 abbrev Inv-loop : tie.InvT-loop
-Inv-loop plan₀ network present at₀ k₀ plan at k =
-    (k ≤ 64) × (WrittenTo (encodeOf network) plan₀ at plan × (drop at (encodeOf network) ≡ rest network k (64 - k)))
+Inv-loop plan₀ network present at₀ k₀ plan at k = Turn network plan₀ at plan k
 
 abbrev μ-loop : tie.MeasureT-loop
 μ-loop plan₀ network present at₀ k₀ plan at k = 64 - k
 
 loop-holds : tie.Need-loop-holds Inv-loop μ-loop
-loop-holds c = (omega arith, (c .before .before .pre, rest-all (c .before .before .args .t2)))
+loop-holds c =
+    let s = c .before .before in
+    record { slot = omega arith; written = s .pre; left = rest-all (s .args .t2) }
 
 cast-slot : tie.Need-cast-slot Inv-loop μ-loop
 cast-slot c = search needs
@@ -46,9 +57,11 @@ command N k e = ap (λ b. commandOf k (b, firstEnd N k, secondEnd N k)) e
 
 put-slot-requires : tie.Need-put-slot-requires Inv-loop μ-loop
 put-slot-requires c κs =
-    let N = c .before .before .before .before .before .before .before .before .args .t2 in
-    let l = c .before .before .before .before .before .loop in
-    slot-room N _ (l .plan) (l .at) (l .k) _ (c .before .before .before .before .loop-test .taken) (command N (l .k) (c .before .before .contains .ensures)) (l .inv .1 .0) (l .inv .1 .1)
+    let turn = c .before .before .before .before in
+    let N = turn .before .before .before .before .args .t2 in
+    let l = turn .before .loop in
+    let same = command N (l .k) (c .before .before .contains .ensures) in
+    slot-room N _ (l .plan) (l .at) (l .k) _ (turn .loop-test .taken) same (l .inv .written) (l .inv .left)
 
 add-k : tie.Need-add-k Inv-loop μ-loop
 add-k c = search needs
@@ -58,29 +71,32 @@ loop-less c = search needs
 
 loop-again : tie.Need-loop-again Inv-loop μ-loop
 loop-again c =
-    let N = c .before .before .before .before .before .before .before .before .before .before .before .args .t2 in
-    let l = c .before .before .before .before .before .before .before .before .loop in
     let put = c .before .before .put-slot in
-    let same = command N (l .k) (c .before .before .before .before .before .contains .ensures) in
-    let h = c .before .before .before .before .before .before .before .loop-test .taken in
-    let written = slot-written N _ (l .plan) (l .at) (l .k) _ h same (l .inv .1 .0) (l .inv .1 .1) in
-    let left = slots-left N _ (l .plan) (l .at) (l .k) _ h same (l .inv .1 .0) (l .inv .1 .1) in (
-      omega arith,
-      (
-        rw (put .ensures .0, put .ensures .1) written,
-        rw (put .ensures .0) (left ∙ ap (λ j. rest N j (64 - j)) (sym (add-one (l .k)))),
-      ),
-    )
+    let tested = c .before .before .before .before .before in
+    let turn = tested .before .before in
+    let N = turn .before .before .before .before .args .t2 in
+    let l = turn .before .loop in
+    let same = command N (l .k) (tested .contains .ensures) in
+    let h = turn .loop-test .taken in
+    let next = slot-written N _ (l .plan) (l .at) (l .k) _ h same (l .inv .written) (l .inv .left) in
+    let fewer = slots-left N _ (l .plan) (l .at) (l .k) _ h same (l .inv .written) (l .inv .left) in
+    record {
+      slot = omega arith;
+      written = rw (put .ensures .0, put .ensures .1) next;
+      left = rw (put .ensures .0) (fewer ∙ ap (λ j. rest N j (64 - j)) (sym (add-one (l .k))));
+    }
 
 same-length : tie.Need-same-length Inv-loop μ-loop
-same-length c = let l = c .before .loop in written-length (encodeOf (c .before .before .before .before .args .t2)) _ (l .at) (l .plan) (l .inv .1 .0)
+same-length c =
+    let l = c .before .loop in
+    written-length (encodeOf (c .before .before .before .before .args .t2)) _ (l .at) (l .plan) (l .inv .written)
 
 returns : tie.Need-returns Inv-loop μ-loop
 returns c =
     let N = c .before .before .before .before .args .t2 in
     let l = c .before .loop in
     let all : l .k ≡ 64 = omega arith in
-    (l .inv .1 .0, l .inv .1 .1 ∙ ap (λ j. rest N j (64 - j)) all ∙ rest-none N)
+    (l .inv .written, l .inv .left ∙ ap (λ j. rest N j (64 - j)) all ∙ rest-none N)
 
 pub put-slots-spec : {M : Type 1} → statement M
 put-slots-spec =
