@@ -8,7 +8,7 @@ use Prim.Native.Nat.{ℕ, zero, suc, _^_, _<_}
 use native.Mathlib.Nat.{not-suc-le-zero, le-of-suc-le-suc, eq-or-lt-of-le}
 use native.Mathlib.Decide.{ℕ-discrete}
 use lib.Bits.{bitAnd}
-use Rattle.bitset.specs.Families.{Meets, Holds, Least, Transversal, Blocker, Clutter}
+use Rattle.bitset.specs.Families.{Holds, Least, Transversal, Blocker, Clutter}
 use Rattle.bitset.specs.Members.{_⊆_, _∖_, _∈_}
 use Rattle.bitset.proofs.Members.{lt-pow, has-zero}
 use Rattle.bitset.proofs.Subsets.{⊆-refl, ⊆-trans, ⊆-antisym, zero-⊆}

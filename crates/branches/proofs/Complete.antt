@@ -2,7 +2,7 @@
 -- Assumes a sound network.
 use mathlib.Core.Path.{_≡_, refl, sym}
 use mathlib.Core.Bool.{Bool, true, false}
-use mathlib.Core.List.{[], List·Memᴰ, Memᴰ·map, Memᴰ·of-map}
+use mathlib.Core.List.{List·Memᴰ, Memᴰ·map, Memᴰ·of-map}
 use mathlib.Core.Logic.{inl, inr, _↔_}
 use Prim.Native.Nat.{ℕ, _-_, _^_, _≤_}
 use native.Mathlib.Nat.{lt-of-lt-of-le}

@@ -29,10 +29,10 @@ use Rattle.graph.proofs.Sound.{Sound, accepted-sound}
 use Rattle.graph.proofs.Relevant.{in-relevantNodes, in-relevantEdges}
 use Rattle.connectivity.specs.declared.Verdict.{Verdict}
 use Rattle.connectivity.specs.declared.Verdict.the-variants.{NotCut, NotMinimal, Minimal, Refused}
-use Rattle.connectivity.specs.Answers.{relevantOf, judgeFault, verdictOf, Says, numbersOf}
+use Rattle.connectivity.specs.Answers.{relevantOf, verdictOf, Says, numbersOf}
 use Rattle.connectivity.proofs.Answers.{part-refused, part-accepted, judge-record, judge-absent, judge-none, verdict-refused, verdict-right}
 use Rattle.listing.specs.declared.Listed.{Listed}
-use Rattle.listing.specs.List.{mincuts, sourceSides, listRefusal, listedBy, cutRowsAfter, sideRowsAfter}
+use Rattle.listing.specs.List.{mincuts, sourceSides, listedBy, cutRowsAfter, sideRowsAfter}
 use Rattle.listing.proofs.Refusals.{Case, faulty, unpaired, outnumbered, complete, call-case, refusal-none}
 use Rattle.listing.proofs.Call.{Answered, answered-faulty, answered-unpaired, answered-outnumbered, answer-refusal, complete-call}
 use Rattle.listing.proofs.Meaning.{mincuts-complete, outnumber-iff, call-complete, call-outnumbered}

@@ -8,11 +8,10 @@ use native.Mathlib.Omega.{arith}
 use lib.ListN.{getD}
 use Rattle.sequences.specs.Distinct.{Distinct}
 use Rattle.bitset.specs.Members.{has, insert, _∖_, membersFrom}
-use Rattle.network.specs.declared.Network.{Network}
 use Rattle.network.specs.Record.{_when_, _then_, sizeFault, pairFault, bare, withEdge}
 use Rattle.format.specs.Format.{numberFault, sizeRefusal, terminalsRefusal, edgeRefusal, endRefusal, sizeStep, terminalsStep, edgeStep, ifTaken, edges, decodeOf}
-use Rattle.graph.specs.Paths.{Joins, Hop, Leads, edgesOf, Minpath}
-use Rattle.graph.specs.Cuts.{only, Mincut}
+use Rattle.graph.specs.Paths.{Joins, Leads, edgesOf, Minpath}
+use Rattle.graph.specs.Cuts.{Mincut}
 use Rattle.graph.specs.Lists.{CompleteList}
 use Rattle.demands.specs.Halls.{inARow, halls, networkOf}
 use Rattle.demands.proofs.Halls.{halls-established}

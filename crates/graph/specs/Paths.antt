@@ -10,7 +10,7 @@
 --   Minpath N r          r is the edge set of a simple path from source to sink (the paper's route)
 --   Connected N u v      some walk leads from u to v
 --   SameMinpaths N M     the two networks have the same minpaths (the paper's "same routes")
-use mathlib.Core.List.{List, [], _∷_, map, foldr, List·Memᴰ}
+use mathlib.Core.List.{List, [], _∷_, map, foldr}
 use mathlib.Core.Logic.{_⊎_, _↔_}
 use mathlib.Core.Path.{_≡_}
 use Prim.Native.Nat.{ℕ}

@@ -3,9 +3,9 @@
 use mathlib.Core.Path.{_≡_, sym, ap, _∙_}
 use mathlib.Core.List.{List}
 use mathlib.Core.Logic.{_↔_, Iff·trans, Iff·symm}
-use Prim.Native.Nat.{ℕ, _≤_, _<_}
+use Prim.Native.Nat.{ℕ, _<_}
 use native.Mathlib.Nat.{lt-trans, lt-of-lt-of-le}
-use lib.ListN.{length, getD, drop, length-map, List·getD-append}
+use lib.ListN.{length, getD, length-map}
 use Rattle.sequences.proofs.Words.{getD-onto}
 use Rattle.sequences.specs.Words.{onto}
 use Rattle.sequences.proofs.Places.{mem-place, getD-map}

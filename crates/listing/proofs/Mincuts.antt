@@ -1,17 +1,11 @@
 -- The computed list of mincuts is the complete list.
 -- Assumes that the edges have numbers below 64 and ends below the node count; where it says so, a sound network.
 use mathlib.Core.Path.{_≡_, refl}
-use mathlib.Core.Bool.{Bool, true, false}
-use mathlib.Core.List.{List, [], _∷_, Pairwise·nil, Pairwise·cons, pairwise-cons, pairwise-singleton, List·Mem, List·Memᴰ, List·Memᴰ·head, List·Memᴰ·tail, List·Memᴰ·not-nil, List·Memᴰ·cases-cons, List·Memᴰ·eq-of-singleton}
-use mathlib.Core.Logic.{inl, inr, _↔_, Iff·trans, Iff·symm, ∥∥₁-elim}
+use mathlib.Core.List.{[], _∷_, pairwise-singleton, List·Memᴰ·head, List·Memᴰ·eq-of-singleton}
+use mathlib.Core.Logic.{Iff·trans, Iff·symm}
 use Prim.Native.Nat.{ℕ, _^_, _<_}
-use native.Mathlib.Bridge.{le-prop}
 use native.Mathlib.Nat.{lt-of-le-of-lt}
-use denote.Floats.{passes}
-use lib.Dec.{T}
 use Rattle.sequences.proofs.Words.{mem-passing, passing-rising}
-use Rattle.sequences.specs.Words.{passing}
-use Rattle.sequences.specs.Rising.{Rising}
 use Rattle.bitset.specs.Members.{subsets}
 use Rattle.bitset.proofs.Subsets.{subset-le, mem-subsets, subsets-rising}
 use Rattle.network.specs.Record.{present}

@@ -7,7 +7,7 @@ use Prim.Native.Nat.{ℕ, _≤_, _<_}
 use native.Mathlib.Omega.{arith}
 use denote.Floats.{is-true}
 use borrow.Author.Tests.{ltb-false, le-ltb, lt-leb, ne-eqb}
-use lib.Dec.{T, leb, ltb, eqb}
+use lib.Dec.{T, ltb}
 use Rattle.bitset.specs.Members.{_∈_}
 use Rattle.bitset.proofs.Sets.{∈-dec}
 use Rattle.network.specs.declared.Network.{Network}
