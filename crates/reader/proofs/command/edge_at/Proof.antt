@@ -16,10 +16,14 @@ sub-if3 : tie.Need-sub-if3
 sub-if3 c = search needs
 
 returns-2 : tie.Need-returns-2
-returns-2 c = let a = c .before .before .before .before .before .args in end-trailing (a .plan .now) (a .at) (a .nodes) (a .next) (c .before .if2 .taken) (c .if3 .taken)
+returns-2 c =
+    let a = c .before .before .before .before .before .args in
+    end-trailing (a .plan .now) (a .at) (a .nodes) (a .next) (c .before .if2 .taken) (c .if3 .taken)
 
 returns-3 : tie.Need-returns-3
-returns-3 c = let a = c .before .before .before .before .before .args in end-alone (a .plan .now) (a .at) (a .nodes) (a .next) (c .before .if2 .taken) (c .if3 .left)
+returns-3 c =
+    let a = c .before .before .before .before .before .args in
+    end-alone (a .plan .now) (a .at) (a .nodes) (a .next) (c .before .if2 .taken) (c .if3 .left)
 
 returns-4 : tie.Need-returns-4
 returns-4 c = edge-another _ _ _ _ (c .before .before .before .if1 .left) (c .before .if2 .left) (c .if4 .taken)
@@ -28,7 +32,9 @@ sub-if5 : tie.Need-sub-if5
 sub-if5 c = search needs
 
 returns-5 : tie.Need-returns-5
-returns-5 c = edge-missing _ _ _ _ (c .before .before .before .before .if1 .left) (c .before .if4 .left) (c .if5 .taken)
+returns-5 c =
+    let i = c .before in
+    edge-missing _ _ _ _ (i .before .before .before .if1 .left) (i .if4 .left) (c .if5 .taken)
 
 add-edge : tie.Need-add-edge
 add-edge c = search needs
@@ -52,10 +58,18 @@ edge-fault-requires : tie.Need-edge-fault-requires
 edge-fault-requires c κs = search needs
 
 returns-6 : tie.Need-returns-6
-returns-6 c = refused _ _ (c .if6 .taken) ∙ edge-values _ _ _ _ _ (c .before .before .before .before .before .before .before .before .before .if1 .left) (c .before .before .before .before .before .before .if4 .left) (c .before .before .before .before .before .if5 .left) (c .before .edge-fault .ensures)
+returns-6 c =
+    let all = c .before .before .before .before .before in
+    let i = all .before in
+    refused _ _ (c .if6 .taken)
+    ∙ edge-values _ _ _ _ _ (i .before .before .before .if1 .left) (i .if4 .left) (all .if5 .left) (c .before .edge-fault .ensures)
 
 returns-7 : tie.Need-returns-7
-returns-7 c = edge-values _ _ _ _ 0 (c .before .before .before .before .before .before .before .before .before .if1 .left) (c .before .before .before .before .before .before .if4 .left) (c .before .before .before .before .before .if5 .left) (sym (c .if6 .left) ∙ c .before .edge-fault .ensures)
+returns-7 c =
+    let all = c .before .before .before .before .before in
+    let i = all .before in
+    let none = sym (c .if6 .left) ∙ c .before .edge-fault .ensures in
+    edge-values _ _ _ _ 0 (i .before .before .before .if1 .left) (i .if4 .left) (all .if5 .left) none
 
 pub edge-at-spec : {M : Type 1} → statement M
 edge-at-spec =

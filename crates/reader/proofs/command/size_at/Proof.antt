@@ -31,10 +31,18 @@ size-fault-requires : tie.Need-size-fault-requires
 size-fault-requires c κs = search needs
 
 returns-4 : tie.Need-returns-4
-returns-4 c = refused _ _ (c .if4 .taken) ∙ size-values _ _ _ (c .before .before .before .before .before .before .if1 .left) (c .before .before .before .before .if2 .left) (c .before .before .before .if3 .left) (c .before .size-fault .ensures)
+returns-4 c =
+    let all = c .before .before .before in
+    let i = all .before in
+    refused _ _ (c .if4 .taken)
+    ∙ size-values _ _ _ (i .before .before .if1 .left) (i .if2 .left) (all .if3 .left) (c .before .size-fault .ensures)
 
 returns-5 : tie.Need-returns-5
-returns-5 c = size-values _ _ 0 (c .before .before .before .before .before .before .if1 .left) (c .before .before .before .before .if2 .left) (c .before .before .before .if3 .left) (sym (c .if4 .left) ∙ c .before .size-fault .ensures)
+returns-5 c =
+    let all = c .before .before .before in
+    let i = all .before in
+    let none = sym (c .if4 .left) ∙ c .before .size-fault .ensures in
+    size-values _ _ 0 (i .before .before .if1 .left) (i .if2 .left) (all .if3 .left) none
 
 pub size-at-spec : {M : Type 1} → statement M
 size-at-spec =

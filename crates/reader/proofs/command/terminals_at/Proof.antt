@@ -37,10 +37,18 @@ terminal-fault-requires : tie.Need-terminal-fault-requires
 terminal-fault-requires c κs = search needs
 
 returns-4 : tie.Need-returns-4
-returns-4 c = refused _ _ (c .if4 .taken) ∙ terminals-values _ _ _ _ (c .before .before .before .before .before .before .before .if1 .left) (c .before .before .before .before .before .if2 .left) (c .before .before .before .before .if3 .left) (c .before .terminal-fault .ensures)
+returns-4 c =
+    let all = c .before .before .before .before in
+    let i = all .before in
+    refused _ _ (c .if4 .taken)
+    ∙ terminals-values _ _ _ _ (i .before .before .if1 .left) (i .if2 .left) (all .if3 .left) (c .before .terminal-fault .ensures)
 
 returns-5 : tie.Need-returns-5
-returns-5 c = terminals-values _ _ _ 0 (c .before .before .before .before .before .before .before .if1 .left) (c .before .before .before .before .before .if2 .left) (c .before .before .before .before .if3 .left) (sym (c .if4 .left) ∙ c .before .terminal-fault .ensures)
+returns-5 c =
+    let all = c .before .before .before .before in
+    let i = all .before in
+    let none = sym (c .if4 .left) ∙ c .before .terminal-fault .ensures in
+    terminals-values _ _ _ 0 (i .before .before .if1 .left) (i .if2 .left) (all .if3 .left) none
 
 pub terminals-at-spec : {M : Type 1} → statement M
 terminals-at-spec =

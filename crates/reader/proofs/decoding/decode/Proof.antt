@@ -23,9 +23,10 @@ refused-requires c κs = search needs
 
 returns : tie.Need-returns
 returns c =
-    let plan = c .before .before .before .before .before .args .plan .now in
+    let one = c .before .before .before in
+    let plan = one .before .before .args .plan .now in
     read-means plan (c .refused .ensures ∙ ap refuse (c .before .number .ensures)
-    ∙ size-stops plan (c .before .before .before .next-command .ensures) (c .before .before .match .keys2))
+    ∙ size-stops plan (one .next-command .ensures) (c .before .before .match .keys2))
 
 next-command-requires-2 : tie.Need-next-command-requires-2
 next-command-requires-2 c κs = search needs
@@ -41,11 +42,12 @@ refused-requires-2 c κs = search needs
 
 returns-2 : tie.Need-returns-2
 returns-2 c =
-    let plan = c .before .before .before .before .before .before .before .before .before .args .plan .now in
-    let size = c .before .before .before .before .before .size .given in
+    let two = c .before .before .before in
+    let s = two .before .before in
+    let one = s .before .before in
+    let plan = one .before .before .args .plan .now in
     read-means plan (c .refused2 .ensures ∙ ap refuse (c .before .number2 .ensures)
-    ∙ terminals-stops plan (c .before .before .before .before .before .before .before .next-command .ensures) (size .1)
-    (c .before .before .before .next-command2 .ensures) (c .before .before .match2 .keys2))
+    ∙ terminals-stops plan (one .next-command .ensures) (s .size .given .1) (two .next-command2 .ensures) (c .before .before .match2 .keys2))
 
 bare-network-requires : tie.Need-bare-network-requires
 bare-network-requires c κs = search needs
@@ -55,11 +57,13 @@ decode-edges-requires c κs = search needs
 
 returns-3 : tie.Need-returns-3
 returns-3 c =
-    let plan = c .before .before .before .before .before .before .before .before .before .before .before .args .plan .now in
-    let size = c .before .before .before .before .before .before .before .size .given in
+    let t = c .before .before .before in
+    let two = t .before .before in
+    let s = two .before .before in
+    let one = s .before .before in
+    let plan = one .before .before .args .plan .now in
     read-means plan (c .decode-edges .ensures ∙ ap (λ N. walk N 0 (drop 5 plan)) (c .before .bare-network .ensures)
-    ∙ sym (terminals-goes plan (c .before .before .before .before .before .before .before .before .before .next-command .ensures) (size .1)
-    (c .before .before .before .before .before .next-command2 .ensures) (c .before .before .before .terminals .given .1)))
+    ∙ sym (terminals-goes plan (one .next-command .ensures) (s .size .given .1) (two .next-command2 .ensures) (t .terminals .given .1)))
 
 pub decode-spec : {M : Type 1} → statement M
 decode-spec =

@@ -36,6 +36,21 @@ module _ (plan : List ℕ) (at : ℕ) (N : Network) (next : ℕ) {t : Step} (e :
       sym (walk-edge N next (drop at plan) (sym e ∙ taken)
       ∙ ap₂ (walk (withEdge N k a b)) (sym (add-one k)) (drop-drop 4 at plan))
 
+-- The same of the command of a turn.
+turn-fits : (c : tie.After-known-told Inv-loop μ-loop) → c .before .step .given .0 .0 < 64
+turn-fits c =
+    let step = c .before .before .before .next-command .ensures in
+    let l = c .before .before .before .before in
+    fits (l .before .before .args .plan .now) (l .loop .at) (l .loop .network) (l .loop .next) step (c .before .step .given .1)
+
+turn-there : (c : tie.After-known-told Inv-loop μ-loop)
+    → let l = c .before .before .before .before in
+    l .loop .at + 4 ≤ length (l .before .before .args .plan .now)
+turn-there c =
+    let step = c .before .before .before .next-command .ensures in
+    let l = c .before .before .before .before in
+    there (l .before .before .args .plan .now) (l .loop .at) (l .loop .network) (l .loop .next) step (c .before .step .given .1)
+
 loop-holds : tie.Need-loop-holds Inv-loop μ-loop
 loop-holds c = search needs
 
@@ -50,40 +65,34 @@ ended-requires c κs = search needs
 
 returns : tie.Need-returns Inv-loop μ-loop
 returns c =
-    let l = c .before .before .before .loop in
-    let plan = c .before .before .before .before .before .args .plan .now in
-    c .ended .ensures ∙ walk-stops (l .network) (l .next) (drop (l .at) plan) (c .before .before .next-command .ensures) (c .before .match .keys2) ∙ l .inv
+    let step = c .before .before in
+    let l = step .before .loop in
+    let plan = step .before .before .before .args .plan .now in
+    c .ended .ensures
+    ∙ walk-stops (l .network) (l .next) (drop (l .at) plan) (step .next-command .ensures) (c .before .match .keys2)
+    ∙ l .inv
 
 with-edge-requires : tie.Need-with-edge-requires Inv-loop μ-loop
-with-edge-requires c κs =
-    let l = c .before .before .before .before .loop in
-    let plan = c .before .before .before .before .before .before .args .plan .now in
-    fits plan (l .at) (l .network) (l .next) (c .before .before .before .next-command .ensures) (c .before .step .given .1)
+with-edge-requires c κs = turn-fits c
 
 add-next : tie.Need-add-next Inv-loop μ-loop
-add-next c =
-    let l = c .before .before .before .before .before .loop in
-    let plan = c .before .before .before .before .before .before .before .args .plan .now in
-    omega (arith, fits plan (l .at) (l .network) (l .next) (c .before .before .before .before .next-command .ensures) (c .before .before .step .given .1))
+add-next c = omega (arith, turn-fits (c .before))
 
 add-at : tie.Need-add-at Inv-loop μ-loop
-add-at c =
-    let l = c .before .before .before .before .before .loop in
-    let plan = c .before .before .before .before .before .before .before .args .plan .now in
-    omega (arith, there plan (l .at) (l .network) (l .next) (c .before .before .before .before .next-command .ensures) (c .before .before .step .given .1))
+add-at c = omega (arith, turn-there (c .before))
 
 loop-less : tie.Need-loop-less Inv-loop μ-loop
-loop-less c =
-    let l = c .before .before .before .before .before .loop in
-    let plan = c .before .before .before .before .before .before .before .args .plan .now in
-    omega (arith, there plan (l .at) (l .network) (l .next) (c .before .before .before .before .next-command .ensures) (c .before .before .step .given .1))
+loop-less c = omega (arith, turn-there (c .before))
 
 loop-again : tie.Need-loop-again Inv-loop μ-loop
 loop-again c =
-    let l = c .before .before .before .before .before .loop in
-    let plan = c .before .before .before .before .before .before .before .args .plan .now in
-    ap (λ x. walk x (c .before .before .step .given .0 .0 + 1) (drop (l .at + 4) plan)) (c .with-edge .ensures)
-    ∙ goes plan (l .at) (l .network) (l .next) (c .before .before .before .before .next-command .ensures) (c .before .before .step .given .1) ∙ l .inv
+    let took = c .before .before .step .given in
+    let step = c .before .before .before .before in
+    let l = step .before .loop in
+    let plan = step .before .before .before .args .plan .now in
+    ap (λ x. walk x (took .0 .0 + 1) (drop (l .at + 4) plan)) (c .with-edge .ensures)
+    ∙ goes plan (l .at) (l .network) (l .next) (step .next-command .ensures) (took .1)
+    ∙ l .inv
 
 pub decode-edges-spec : {M : Type 1} → statement M
 decode-edges-spec =
