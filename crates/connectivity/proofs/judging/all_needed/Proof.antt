@@ -41,27 +41,34 @@ severed-requires c κs = search needs
 
 -- What is severed is the set without its member.
 dropped : (c : tie.After-severed Inv-loop μ-loop)
-    → c .severed .result ≡ severed (c .before .before .before .before .before .args .network) (c .before .before .before .before .before .args .set .0 ∖ 2 ^ c .before .before .before .lowest .result)
+    → let low = c .before .before .before in
+    let a = low .before .before .args in
+    c .severed .result ≡ severed (a .network) (a .set .0 ∖ 2 ^ low .lowest .result)
 dropped c =
-    let a = c .before .before .before .before .before .args in
-    c .severed .ensures ∙ ap (severed (a .network)) (without-minus (a .set .0) (c .before .before .before .lowest .result) _ (c .before .without .ensures))
+    let low = c .before .before .before in
+    let a = low .before .before .args in
+    c .severed .ensures ∙ ap (severed (a .network)) (without-minus (a .set .0) (low .lowest .result) _ (c .before .without .ensures))
 
 returns-2 : tie.Need-returns-2 Inv-loop μ-loop
 returns-2 c =
-    let a = c .before .before .before .before .before .before .args in
-    let l = c .before .before .before .before .before .loop in
-    let low = c .before .before .before .before .lowest in
-    let there = l .inv .within (low .result) (passes _ (low .ensures .member (search needs))) in
+    let f = c .before .before .before .before in
+    let a = f .before .before .args in
+    let low = f .lowest in
+    let there = f .before .loop .inv .within (low .result) (passes _ (low .ensures .member (search needs))) in
     sym (needed-false (a .network) (a .set .0) (search needs) (low .result) there (sym (dropped (c .before)) ∙ c .if2 .taken))
 
 without-lowest-requires : tie.Need-without-lowest-requires Inv-loop μ-loop
 without-lowest-requires c κs = search needs
 
+-- The lowest member is found, seen from the end of its turn.
+abbrev found : tie.After-without-lowest Inv-loop μ-loop → tie.After-lowest Inv-loop μ-loop
+found c = c .before .before .before .before .before
+
 -- One member less is left.
 less : (c : tie.After-without-lowest Inv-loop μ-loop)
-    → Less (c .before .before .before .before .before .before .loop .left .0) (c .before .before .before .before .before .lowest .result) (c .without-lowest .result .0)
+    → Less (found c .before .loop .left .0) (found c .lowest .result) (c .without-lowest .result .0)
 less c =
-    let low = c .before .before .before .before .before .lowest in
+    let low = found c .lowest in
     less-lowest 64 _ (low .result) _ (low .ensures) (search needs) (c .without-lowest .ensures (low .result) (low .ensures))
 
 loop-less : tie.Need-loop-less Inv-loop μ-loop
@@ -69,10 +76,11 @@ loop-less c = less-lt _ _ _ (less c)
 
 loop-again : tie.Need-loop-again Inv-loop μ-loop
 loop-again c =
-    let a = c .before .before .before .before .before .before .before .args in
-    let k = c .before .before .before .before .before .lowest .result in
+    let f = c .before .before .before .before .before in
+    let a = f .before .before .args in
+    let k = f .lowest .result in
     let needed : T (not (severed (a .network) (a .set .0 ∖ 2 ^ k))) = rw (← dropped (c .before .before), c .before .if2 .left) tt in
-    done-next _ (a .set .0) _ k _ (less c) needed (c .before .before .before .before .before .before .loop .inv)
+    done-next _ (a .set .0) _ k _ (less c) needed (f .before .loop .inv)
 
 pub all-needed-spec : {M : Type 1} → statement M
 all-needed-spec =

@@ -5,7 +5,7 @@ use Rattle.bitset.proofs.Sets.{minus-⊆}
 use Rattle.bitset.proofs.Results.{single-power, difference-minus}
 use Rattle.network.specs.Record.{present}
 use Rattle.graph.specs.CutTests.{severed}
-use Rattle.graph.proofs.Sound.{accepted-sound}
+use Rattle.graph.proofs.Sound.{Sound, accepted-sound}
 use borrow.Author.Needs.{needs}
 use Rattle.connectivity.proofs.judging.severed.Statement.{statement}
 use Rattle.connectivity.proofs.judging.severed.Tie as tie
@@ -28,16 +28,22 @@ cast-contains c = search needs
 contains-requires : tie.Need-contains-requires
 contains-requires c κs = search needs
 
+-- The network is sound.
+sound : (c : tie.Start) → Sound (c .args .network)
+sound c = accepted-sound (c .args .network) (search needs) (c .pre)
+
 returns : tie.Need-returns
 unfolding severed
 returns c =
-    let a = c .before .before .before .before .before .before .before .args in
+    let one = c .before .before .before in
+    let rest = one .before .before in
+    let start = rest .before .before in
+    let a = start .args in
     let N = a .network in
-    let ok = c .before .before .before .before .before .before .before .pre in
-    let S = accepted-sound N (search needs) ok in
-    let over = difference-minus (present N) (a .set .0) _ (c .before .before .before .before .before .difference .ensures) in
-    let from = single-power 32 (N .source) _ (omega (arith, S .source-lt, S .small)) (c .before .before .before .single .ensures) in
-    let reached = c .before .before .reach .ensures ok (rw over (minus-⊆ (present N) (a .set .0))) in
+    let S = sound start in
+    let over = difference-minus (present N) (a .set .0) _ (rest .difference .ensures) in
+    let from = single-power 32 (N .source) _ (omega (arith, S .source-lt, S .small)) (one .single .ensures) in
+    let reached = c .before .before .reach .ensures (start .pre) (rw over (minus-⊆ (present N) (a .set .0))) in
     rw (c .contains .ensures, reached, over, from)
 
 pub severed-spec : {M : Type 1} → statement M

@@ -45,15 +45,20 @@ sound c = accepted-sound (c .args .network) (search needs) (c .pre .0)
 
 returns : tie.Need-returns
 returns c =
-    let start = c .before .before .before .before .before .before .before .before .before .before .before in
+    let both = c .before .before .before in
+    let one = both .before .before in
+    let edges = one .before .before in
+    let others = edges .before in
+    let all = others .before in
+    let start = all .before .before in
     let a = start .args in
     let N = a .network in
     past-made N (sound start) (a .c) (start .pre .1) _ _ _ _ _ _ _ _
-    (c .before .before .before .before .before .before .before .before .before .below .ensures)
-    (c .before .before .before .before .before .before .before .before .without .ensures)
-    (c .before .before .before .before .before .before .before .edges-within .ensures)
-    (c .before .before .before .before .before .single .ensures)
-    (c .before .before .before .with .ensures)
+    (all .below .ensures)
+    (others .without .ensures)
+    (edges .edges-within .ensures)
+    (one .single .ensures)
+    (both .with .ensures)
     (c .before .before .without2 .ensures)
     (c .before .reach .ensures (start .pre .0))
     (c .with2 .ensures)

@@ -1,11 +1,12 @@
 -- `spread::reach` meets its contract. The invariant: the start has been reached, and of an accepted network reachable nodes alone.
 -- The measure is how far the set is from the largest word: a round that adds a node makes it a larger number. Assumes nothing.
 use mathlib.Core.Path.{_≡_, sym, _∙_}
-use Prim.Native.Nat.{_-_, _^_, _<_}
+use Prim.Native.Nat.{ℕ, _-_, _^_, _<_}
 use native.Mathlib.Omega.{arith}
 use borrow.Author.Needs.{needs}
 use borrow.Author.Tests.{eqb-true, eqb-false}
 use Rattle.bitset.specs.Members.{_⊆_}
+use Rattle.network.specs.declared.Network.{Network}
 use Rattle.network.specs.Record.{faultOf, present}
 use Rattle.graph.specs.Cuts.{only}
 use Rattle.graph.specs.Reach.{reachOf}
@@ -14,11 +15,16 @@ use Rattle.connectivity.proofs.Rounds.{round-keeps, round-larger, sprea
 use Rattle.connectivity.proofs.spread.reach.Statement.{statement}
 use Rattle.connectivity.proofs.spread.reach.Tie as tie
 
+-- What holds at each turn.
+record Turn (network : Network) (edges start spread : ℕ) : Type 0 where
+  word : spread < 2 ^ 32
+  -- The start has been reached,
+  started : start ⊆ spread
+  -- and of an accepted network reachable nodes alone.
+  reachable : faultOf network ≡ 0 → edges ⊆ present network → spread ⊆ reachOf (only network edges) start
+
 abbrev Inv-loop : tie.InvT-loop
-Inv-loop network edges spread₀ spread =
-    (spread .0 < 2 ^ 32)
-    × (spread₀ .0 ⊆ spread .0)
-    × (faultOf network ≡ 0 → edges .0 ⊆ present network → spread .0 ⊆ reachOf (only network (edges .0)) (spread₀ .0))
+Inv-loop network edges spread₀ spread = Turn network (edges .0) (spread₀ .0) (spread .0)
 
 abbrev μ-loop : tie.MeasureT-loop
 μ-loop network edges spread₀ spread = 2 ^ 32 - spread .0
@@ -28,7 +34,13 @@ sound : (c : tie.Start Inv-loop μ-loop) → faultOf (c .args .network) ≡ 0 �
 sound c = accepted-sound (c .args .network) (search needs)
 
 loop-holds : tie.Need-loop-holds Inv-loop μ-loop
-loop-holds c = (search needs, λ k m. m, λ ok l. spread-first (c .args .network) (sound c ok) (c .args .edges .0) l (c .args .start .0))
+loop-holds c =
+    let a = c .args in
+    record {
+      word = search needs;
+      started = λ k m. m;
+      reachable = λ ok within. spread-first (a .network) (sound c ok) (a .edges .0) within (a .start .0);
+    }
 
 round-requires : tie.Need-round-requires Inv-loop μ-loop
 round-requires c κs = search needs
@@ -42,28 +54,35 @@ loop-less c =
     let a = c .before .before .before .before .args in
     let l = c .before .before .before .loop in
     let r = c .before .before .round in
-    let larger = round-larger (only (a .network) (a .edges .0)) (l .spread .0) (search needs) (l .inv .0) (λ e.
+    let larger = round-larger (only (a .network) (a .edges .0)) (l .spread .0) (search needs) (l .inv .word) (λ e.
     eqb-false _ _ (sym (c .before .equals .ensures) ∙ c .if1 .left) (r .ensures ∙ e)) in
     omega (arith, larger, r .ensures)
 
 loop-again : tie.Need-loop-again Inv-loop μ-loop
 unfolding only
 loop-again c =
-    let a = c .before .before .before .before .args in
+    let start = c .before .before .before .before in
+    let a = start .args in
     let l = c .before .before .before .loop in
-    let M = only (a .network) (a .edges .0) in
-    rw (c .before .before .round .ensures) (
-      search needs,
-      λ k m. round-keeps M (l .spread .0) (search needs) (l .inv .0) k (l .inv .1 k m),
-      λ ok within. spread-next (a .network) (sound (c .before .before .before .before) ok) (a .edges .0) within (a .start .0) (l .spread .0) (l .inv .0) (l .inv .2 ok within),
-    )
+    let inv = l .inv in
+    let s = l .spread .0 in
+    let N = a .network in
+    let M = only N (a .edges .0) in
+    rw (c .before .before .round .ensures) (record {
+      word = search needs;
+      started = λ k m. round-keeps M s (search needs) (inv .word) k (inv .started k m);
+      reachable = λ ok within. spread-next N (sound start ok) (a .edges .0) within (a .start .0) s (inv .word) (inv .reachable ok within);
+    })
 
 returns : tie.Need-returns Inv-loop μ-loop
 returns c ok within =
-    let a = c .before .before .before .before .args in
+    let start = c .before .before .before .before in
+    let a = start .args in
     let l = c .before .before .before .loop in
-    spread-last (a .network) (sound (c .before .before .before .before) ok) (a .edges .0) within (a .start .0) (l .spread .0) (l .inv .0) (l .inv .2 ok within) (l .inv .1)
-    (sym (c .before .before .round .ensures) ∙ eqb-true _ _ (sym (c .before .equals .ensures) ∙ c .if1 .taken))
+    let inv = l .inv in
+    let same = sym (c .before .before .round .ensures) ∙ eqb-true _ _ (sym (c .before .equals .ensures) ∙ c .if1 .taken) in
+    spread-last (a .network) (sound start ok) (a .edges .0) within (a .start .0) (l .spread .0) (inv .word)
+    (inv .reachable ok within) (inv .started) same
 
 pub reach-spec : {M : Type 1} → statement M
 reach-spec =
