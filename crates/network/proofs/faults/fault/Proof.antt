@@ -28,9 +28,10 @@ terminal-fault-requires c κs = search needs
 returns-2 : tie.Need-returns-2
 unfolding faultOf
 returns-2 c =
-    fault-means _ (stored (c .before .before .before .before))
-    (c .before .terminal-fault .ensures
-    ∙ sym (none-then _ (sym (c .before .before .before .size-fault .ensures) ∙ c .before .before .if1 .left) ∙ some-then _ _ (omega (arith, c .before .terminal-fault .ensures))))
+    let sized = c .before .before in
+    let none = sym (sized .before .size-fault .ensures) ∙ sized .if1 .left in
+    let fault = c .before .terminal-fault .ensures in
+    fault-means _ (stored (sized .before .before)) (fault ∙ sym (none-then _ none ∙ some-then _ _ (omega (arith, fault))))
 
 slots-fault-requires : tie.Need-slots-fault-requires
 slots-fault-requires c κs = search needs
@@ -38,9 +39,10 @@ slots-fault-requires c κs = search needs
 returns-3 : tie.Need-returns-3
 unfolding faultOf
 returns-3 c =
-    fault-means _ (stored (c .before .before .before .before .before))
-    (c .slots-fault .ensures
-    ∙ sym (none-then _ (sym (c .before .before .before .before .size-fault .ensures) ∙ c .before .before .before .if1 .left) ∙ none-then _ (sym (c .before .before .terminal-fault .ensures) ∙ c .before .if2 .left)))
+    let sized = c .before .before .before in
+    let none = sym (sized .before .size-fault .ensures) ∙ sized .if1 .left in
+    let none′ = sym (c .before .before .terminal-fault .ensures) ∙ c .before .if2 .left in
+    fault-means _ (stored (sized .before .before)) (c .slots-fault .ensures ∙ sym (none-then _ none ∙ none-then _ none′))
 
 pub fault-spec : {M : Type 1} → statement M
 fault-spec =
