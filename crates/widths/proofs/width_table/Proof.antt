@@ -1,7 +1,8 @@
--- `width_table` meets its contract. The loop's invariant: the counts are those of the rows passed. The measure is what is left of the length.
--- Assumes nothing.
+-- `width_table` meets its contract. The loop's invariant: the counts are those of the rows passed.
+-- The measure is what is left of the length. Assumes nothing.
 use mathlib.Core.Path.{_≡_}
-use Prim.Native.Nat.{_-_, _≤_}
+use mathlib.Core.List.{List}
+use Prim.Native.Nat.{ℕ, _-_, _≤_}
 use native.Mathlib.Omega.{arith}
 use borrow.Author.Needs.{needs}
 use lib.ListN.{length, take}
@@ -10,14 +11,19 @@ use Rattle.widths.proofs.WidthTable.{width-lt, widths-le, widths-none, 
 use Rattle.widths.proofs.width_table.Statement.{statement}
 use Rattle.widths.proofs.width_table.Tie as tie
 
+-- What holds at each turn: i is not past the rows, and the counts are those of the rows before it.
+record Turn (cuts counts : List ℕ) (i : ℕ) : Type 0 where
+  within : i ≤ length cuts
+  counted : counts ≡ widthsOf (take i cuts)
+
 abbrev Inv-loop : tie.InvT-loop
-Inv-loop cuts counts₀ i₀ counts i = (i ≤ length cuts) × (counts ≡ widthsOf (take i cuts))
+Inv-loop cuts counts₀ i₀ counts i = Turn cuts counts i
 
 abbrev μ-loop : tie.MeasureT-loop
 μ-loop cuts counts₀ i₀ counts i = length cuts - i
 
 loop-holds : tie.Need-loop-holds Inv-loop μ-loop
-loop-holds c = (search needs, widths-none)
+loop-holds c = record { within = search needs; counted = widths-none }
 
 mul-width : tie.Need-mul-width Inv-loop μ-loop
 mul-width c = search needs
@@ -36,9 +42,11 @@ array-read-counts c = width-lt _ (c .width .ensures)
 
 add-counts : tie.Need-add-counts Inv-loop μ-loop
 add-counts c =
-    let cuts = c .before .before .before .before .before .args .cuts .now in
-    let now = c .before .before .before .loop in
-    record { fits = omega (arith, widths-le cuts (now .counts) (now .i) (c .width .result) (now .inv .1) (search needs) (width-lt _ (c .width .ensures))) }
+    let turn = c .before .before .before in
+    let cuts = turn .before .before .args .cuts .now in
+    let now = turn .loop in
+    let few = widths-le cuts (now .counts) (now .i) (c .width .result) (now .inv .counted) (search needs) (width-lt _ (c .width .ensures)) in
+    record { fits = omega (arith, few) }
 
 array-write-counts : tie.Need-array-write-counts Inv-loop μ-loop
 array-write-counts c = width-lt _ (c .width .ensures)
@@ -51,14 +59,18 @@ loop-less c = search needs
 
 loop-again : tie.Need-loop-again Inv-loop μ-loop
 loop-again c =
-    let cuts = c .before .before .before .before .before .args .cuts .now in
-    let now = c .before .before .before .loop in
-    (search needs, widths-next cuts (now .counts) (now .i) (c .width .result) (now .inv .1) (c .width .ensures) (search needs))
+    let turn = c .before .before .before in
+    let cuts = turn .before .before .args .cuts .now in
+    let now = turn .loop in
+    record {
+      within = search needs;
+      counted = widths-next cuts (now .counts) (now .i) (c .width .result) (now .inv .counted) (c .width .ensures) (search needs);
+    }
 
 returns : tie.Need-returns Inv-loop μ-loop
 returns c =
     let cuts = c .before .before .before .args .cuts .now in
-    widths-all cuts _ (c .before .loop .i) (c .before .loop .inv .1) (search needs)
+    widths-all cuts _ (c .before .loop .i) (c .before .loop .inv .counted) (search needs)
 
 pub width-table-spec : {M : Type 1} → statement M
 width-table-spec =
