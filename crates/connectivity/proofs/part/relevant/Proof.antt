@@ -24,8 +24,9 @@ empty-requires-2 c κs = search needs
 
 returns : tie.Need-returns
 returns c =
-    let start = c .before .before .before .before in
-    let part = part-refused (start .args .network) _ _ _ (c .before .before .before .fault .ensures .0) (c .before .before .if1 .taken)
+    let refused = c .before .before in
+    let start = refused .before .before in
+    let part = part-refused (start .args .network) _ _ _ (refused .before .fault .ensures .0) (refused .if1 .taken)
     (empty-zero _ (c .before .empty .ensures)) (empty-zero _ (c .empty2 .ensures)) in
     (part, part-means (start .args .network) (stored start) _ part)
 
@@ -38,11 +39,13 @@ edges-within-requires c κs = search needs
 returns-2 : tie.Need-returns-2
 unfolding relevantEdges
 returns-2 c =
-    let N = c .before .before .before .before .args .network in
+    let ok = c .before .before in
+    let start = ok .before .before in
+    let N = start .args .network in
     let nodes = c .before .relevant-nodes .ensures in
-    let part = part-accepted N _ _ (sym (c .before .before .before .fault .ensures .0) ∙ c .before .before .if1 .left) nodes
-    (c .edges-within .ensures ∙ ap (edgesWithin N) nodes) in
-    (part, part-means N (stored (c .before .before .before .before)) _ part)
+    let none = sym (ok .before .fault .ensures .0) ∙ ok .if1 .left in
+    let part = part-accepted N _ _ none nodes (c .edges-within .ensures ∙ ap (edgesWithin N) nodes) in
+    (part, part-means N (stored start) _ part)
 
 pub relevant-spec : {M : Type 1} → statement M
 relevant-spec =

@@ -19,8 +19,8 @@ add-if-requires-2 c κs = search needs
 
 returns : tie.Need-returns
 returns c =
-    rw (c .add-if2 .ensures, c .before .contains2 .ensures, c .before .before .add-if .ensures, c .before .before .before .contains .ensures)
-    (addIf-mod 32 _ _ _)
+    let one = c .before .before in
+    rw (c .add-if2 .ensures, c .before .contains2 .ensures, one .add-if .ensures, one .before .contains .ensures) (addIf-mod 32 _ _ _)
 
 pub across-spec : {M : Type 1} → statement M
 across-spec =
