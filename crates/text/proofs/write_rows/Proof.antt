@@ -39,7 +39,8 @@ shared-slice-read-t17 c = search needs
 write-row-requires : tie.Need-write-row-requires Inv-loop μ-loop
 write-row-requires c κs =
     let at-loop = c .before .before .before .before in
-    room-row _ _ _ _ (search needs) (search needs) (search needs) (at-loop .loop .inv .left) (at-loop .before .before .before .before .pre .2)
+    let start = at-loop .before .before .before .before in
+    room-row _ _ _ _ (search needs) (search needs) (search needs) (at-loop .loop .inv .left) (start .pre .2)
 
 add-row : tie.Need-add-row Inv-loop μ-loop
 add-row c = search needs

@@ -8,7 +8,8 @@ use lib.ListN.{length}
 use Rattle.network.specs.Record.{Stored}
 use Rattle.network.proofs.Refusals.{none-then, some-then, some-when, none-when}
 use Rattle.format.specs.Format.{encodeOf, encodeRefusal}
-use Rattle.writer.proofs.Encoding.{encode-refused, encode-written, written-means, header-room, header-kept, end-room, end-length, end-bytes}
+use Rattle.writer.proofs.Encoding.{encode-refused, encode-written, written-means, header-room, header-kept}
+use Rattle.writer.proofs.Encoding.{end-room, end-length, end-bytes}
 use borrow.Author.Needs.{needs}
 use Rattle.writer.proofs.encode.Statement.{statement}
 use Rattle.writer.proofs.encode.Tie as tie

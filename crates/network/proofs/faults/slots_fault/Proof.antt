@@ -53,7 +53,8 @@ unfolding slotFault
 here c =
     let N = turn c .before .before .before .args .t1 in
     let k = turn c .before .loop .k in
-    c .slot-fault .ensures ∙ ap (λ p. slotFaultOf (N .nodes) (p, firstEnd N k, secondEnd N k)) (c .before .before .before .contains .ensures)
+    c .slot-fault .ensures
+    ∙ ap (λ p. slotFaultOf (N .nodes) (p, firstEnd N k, secondEnd N k)) (c .before .before .before .contains .ensures)
 
 returns : tie.Need-returns Inv-loop μ-loop
 returns c =

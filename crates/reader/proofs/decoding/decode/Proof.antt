@@ -42,12 +42,13 @@ refused-requires-2 c κs = search needs
 
 returns-2 : tie.Need-returns-2
 returns-2 c =
+    let other = c .before .before .match2 .keys2 in
     let two = c .before .before .before in
     let s = two .before .before in
     let one = s .before .before in
     let plan = one .before .before .args .plan .now in
     read-means plan (c .refused2 .ensures ∙ ap refuse (c .before .number2 .ensures)
-    ∙ terminals-stops plan (one .next-command .ensures) (s .size .given .1) (two .next-command2 .ensures) (c .before .before .match2 .keys2))
+    ∙ terminals-stops plan (one .next-command .ensures) (s .size .given .1) (two .next-command2 .ensures) other)
 
 bare-network-requires : tie.Need-bare-network-requires
 bare-network-requires c κs = search needs
