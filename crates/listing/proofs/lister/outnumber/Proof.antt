@@ -23,10 +23,13 @@ always-enough-requires c κs = search needs
 
 returns : tie.Need-returns
 returns c =
-    let a = c .before .before .before .args in
+    let start = c .before .before .before in
+    let a = start .args in
     let stored : Stored (a .network) = search needs in
-    let most : 2 ^ (size 32 (a .nodes .0) - 2) ≤ a .lent = rw (c .before .before .size .ensures) at (c .before .always-enough .ensures (c .if1 .taken)) in
-    let bound = rw (← c .before .before .before .pre .1) at (rows-at-most (a .network) (accepted-sound (a .network) stored (c .before .before .before .pre .0))) in
+    let sound = accepted-sound (a .network) stored (start .pre .0) in
+    let most : 2 ^ (size 32 (a .nodes .0) - 2) ≤ a .lent =
+    rw (c .before .before .size .ensures) at (c .before .always-enough .ensures (c .if1 .taken)) in
+    let bound = rw (← start .pre .1) at (rows-at-most (a .network) sound) in
     sym (le-ltb (a .lent) (length (rows (a .network))) (le-trans bound most))
 
 slice-aggregate-enumerate : tie.Need-slice-aggregate-enumerate
