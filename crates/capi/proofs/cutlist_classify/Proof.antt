@@ -22,9 +22,10 @@ refusal-number-requires c κs = search needs
 
 returns : tie.Need-returns
 returns c =
-    let a = c .before .before .before .before .args in
+    let made = c .before .before .before in
+    let a = made .before .args in
     let call = c .before .before .classify .ensures in
-    let N = c .before .before .before .assemble .ensures in
+    let N = made .assemble .ensures in
     let judged = call .0 ∙ ap (λ N. verdictOf N (a .set)) N in (
       record {
         refusal = c .refusal-number .ensures ∙ ap (λ (v : Verdict). numbersOf v .refusal) judged;

@@ -19,15 +19,17 @@ same-length c = search needs
 
 returns : tie.Need-returns
 returns c =
-    let e = c .before .before .encode .ensures .0 in
-    let lent = c .before .before .before .before .before .before .args .plan .now in
-    let N = c .before .before .before .before .assemble .ensures in (
+    let call = c .before .before in
+    let made = call .before .before in
+    let e = call .encode .ensures .0 in
+    let lent = made .before .before .args .plan .now in
+    let N = made .assemble .ensures in (
       record {
         refusal = ap (λ (d : Encoded). d .refusal) (e .0) ∙ ap (λ (M : Network). encodedBy M lent .refusal) N;
         count = ap (λ (d : Encoded). d .count) (e .0) ∙ ap (λ (M : Network). encodedBy M lent .count) N;
         bytes = e .1 ∙ ap (λ (M : Network). bytesAfter M lent) N;
       },
-      rw N at (c .before .before .encode .ensures .1),
+      rw N at (call .encode .ensures .1),
     )
 
 pub cutlist-encode-spec : {M : Type 1} → statement M

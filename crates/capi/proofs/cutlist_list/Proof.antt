@@ -22,17 +22,20 @@ same-length-2 c = search needs
 
 returns : tie.Need-returns
 returns c =
-    let e = c .before .before .before .before .list .ensures .0 in
-    let cuts = c .before .before .before .before .before .before .before .before .before .before .args .cuts .now in
-    let sides = c .before .before .before .before .before .before .before .before .before .before .args .sides .now in
-    let N = c .before .before .before .before .before .before .before .assemble .ensures in (
+    let call = c .before .before .before .before in
+    let made = call .before .before .before in
+    let a = made .before .before .before .args in
+    let e = call .list .ensures .0 in
+    let cuts = a .cuts .now in
+    let sides = a .sides .now in
+    let N = made .assemble .ensures in (
       record {
         refusal = ap (λ (d : Listed). d .refusal) (e .0) ∙ ap (λ (M : Network). listedBy M cuts sides .refusal) N;
         count = ap (λ (d : Listed). d .count) (e .0) ∙ ap (λ (M : Network). listedBy M cuts sides .count) N;
         cut-rows = e .1 ∙ ap (λ (M : Network). cutRowsAfter M cuts sides) N;
         side-rows = e .2 ∙ ap (λ (M : Network). sideRowsAfter M cuts sides) N;
       },
-      rw N at (c .before .before .before .before .list .ensures .1),
+      rw N at (call .list .ensures .1),
     )
 
 pub cutlist-list-spec : {M : Type 1} → statement M

@@ -16,8 +16,11 @@ abbrev μ-loop : tie.MeasureT-loop
 
 -- No more bytes were read than there was room for.
 more : (c : tie.Else1 Inv-loop μ-loop)
-    → c .before .before .input .given .0 .0 ≤ length (c .before .before .before .before .before .before .read-once .last .0)
-more c = rw (c .before .before .input .given .1) at (c .before .before .before .before .before .before .read-once .ensures)
+    → let found = c .before .before in
+    found .input .given .0 .0 ≤ length (found .before .before .before .before .read-once .last .0)
+more c =
+    let found = c .before .before in
+    rw (found .input .given .1) at (found .before .before .before .before .read-once .ensures)
 
 loop-holds : tie.Need-loop-holds Inv-loop μ-loop
 loop-holds c = search needs

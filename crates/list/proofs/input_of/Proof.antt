@@ -15,7 +15,8 @@ count-requires c κs = search needs
 
 returns-2 : tie.Need-returns-2
 returns-2 c =
-    input-read _ _ (toZ-ofZ w64 (c .before .before .before .args .got) (c .before .before .before .fits .got)) (c .before .if1 .left) (c .count .ensures .1)
+    let start = c .before .before .before in
+    input-read _ _ (toZ-ofZ w64 (start .args .got) (start .fits .got)) (c .before .if1 .left) (c .count .ensures .1)
 
 pub input-of-spec : {M : Type 1} → statement M
 input-of-spec = tie.close (tie.spec returns count-requires returns-2)

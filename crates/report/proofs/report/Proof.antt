@@ -18,8 +18,8 @@ returns : tie.Need-returns
 returns c = record {
   printed = λ s e.
       let read = c .before .before .before .before in
-      rw (report-whole s (read .before .first .ensures) (read .before .before .first-arg .given .0) e, report-unread _ _ (read .decode .ensures .0) (c .before .before .if1 .taken))
-      (c .put-refusal .ensures);
+      let whole = report-whole s (read .before .first .ensures) (read .before .before .first-arg .given .0) e in
+      rw (whole, report-unread _ _ (read .decode .ensures .0) (c .before .before .if1 .taken)) (c .put-refusal .ensures);
 }
 
 slice-aggregate-list : tie.Need-slice-aggregate-list
@@ -39,9 +39,12 @@ returns-2 c = record {
   printed = λ s e.
       let call = c .before .before .before .before .before .before in
       let read = call .before .before .before .before .before in
-      let listed = call .list .ensures .0 in
-      rw (report-whole s (read .before .first .ensures) (read .before .before .first-arg .given .0) e, report-refused _ _ (read .decode .ensures .0) (call .before .before .before .if1 .left) _ _ lent-rows lent-rows _ (listed .0) (c .before .before .if2 .taken))
-      (c .put-refusal2 .ensures);
+      let made = call .list .ensures .0 in
+      let none = call .before .before .before .if1 .left in
+      let fault = c .before .before .if2 .taken in
+      let whole = report-whole s (read .before .first .ensures) (read .before .before .first-arg .given .0) e in
+      let refused = report-refused _ _ (read .decode .ensures .0) none _ _ lent-rows lent-rows _ (made .0) fault in
+      rw (whole, refused) (c .put-refusal2 .ensures);
 }
 
 put-list-requires : tie.Need-put-list-requires
@@ -50,11 +53,15 @@ put-list-requires c κs = search needs
 returns-3 : tie.Need-returns-3
 returns-3 c = record {
   printed = λ s e.
-      let call = c .before .before .before .before .before .before .before .before in
+      let all = c .before .before .before .before in
+      let ok = all .if2 .left in
+      let call = all .before .before .before .before in
       let read = call .before .before .before .before .before in
-      let listed = call .list .ensures .0 in
-      rw (report-whole s (read .before .first .ensures) (read .before .before .first-arg .given .0) e, report-listed _ _ (read .decode .ensures .0) (call .before .before .before .if1 .left) _ _ lent-rows lent-rows _ (listed .0) (listed .1) (listed .2) (c .before .before .before .before .if2 .left))
-      (c .put-list .ensures);
+      let made = call .list .ensures .0 in
+      let none = call .before .before .before .if1 .left in
+      let whole = report-whole s (read .before .first .ensures) (read .before .before .first-arg .given .0) e in
+      let listed = report-listed _ _ (read .decode .ensures .0) none _ _ lent-rows lent-rows _ (made .0) (made .1) (made .2) ok in
+      rw (whole, listed) (c .put-list .ensures);
 }
 
 pub report-spec : {M : Type 1} → statement M
