@@ -27,6 +27,8 @@
  * bytes, and may not be larger than the memory lent. No two pointers may lead to the same memory if
  * one of them is written through.
  *
+ * The header is C99, or C++98, and later.
+ *
  * The functions have no memory of their own: they keep nothing between calls, allocate nothing, lock
  * nothing and call nothing but memcpy and memset. So they may be called from several threads at once
  * and from signal handlers, as long as no call is given memory that another one writes.

@@ -13,6 +13,8 @@ const HEADER: &str = include_str!("../../include/cutlist.h");
 const REFUSALS: &str = include_str!("../../crates/network/src/refusal.rt");
 const JUDGING: &str = include_str!("../../crates/connectivity/src/judging.rt");
 const REFERENCE: &str = include_str!("../../rust/src/reference.rs");
+const READER_SPECIFIED: &str = include_str!("../../crates/format/specs/Format.antt");
+const RECORD_SPECIFIED: &str = include_str!("../../crates/network/specs/Record.antt");
 const EXPORTED: &str = include_str!("../../crates/capi/src/lib.rt");
 const LONGEST_PROVED: &str = include_str!("../../crates/format/proofs/Longest.antt");
 const DECIDING_PROVED: &str = include_str!("../../crates/format/proofs/Prefix.antt");
@@ -152,6 +154,22 @@ fn refusals_agree() {
     assert_eq!(this, library, "crate and library");
     assert_eq!(refusals_of_the_reference(), names_of(&library));
     assert!(Refusal::ALL.is_sorted_by_key(|refusal| refusal.number()));
+}
+
+/// The numbers that reader and record test can give: the specifications' lists, and those of the
+/// tests, whose fixed run demands that each occurs.
+#[test]
+fn lists_of_refusals_agree() {
+    let numbers =
+        |list: &str, parting: &str| -> Vec<u8> { list.split(parting).map(number).collect() };
+    for (specified, name, tested) in [
+        (READER_SPECIFIED, "readerRefusals", "READING"),
+        (RECORD_SPECIFIED, "recordRefusals", "FAULTS"),
+    ] {
+        let specified = between(specified, &format!("{name} = "), " ∷ []");
+        let tested = between(REFERENCE, &format!("{tested}: &[u8] = &["), "]");
+        assert_eq!(numbers(specified, "∷"), numbers(tested, ","), "{name}");
+    }
 }
 
 #[test]

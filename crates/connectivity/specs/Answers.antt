@@ -10,7 +10,7 @@
 --   verdictOf N c        what c is, or the refusal
 --   Says N c v           what the verdict v says of c
 --   VerdictMeans N c v   what the verdict v on c means
---   Numbers              the numbers of a verdict: that of the refusal, and that of the verdict
+--   VerdictNumbers       the numbers of a verdict: that of the refusal, and that of the verdict
 --   numbersOf v          the numbers of each case: that of the refusal is 0 beside a verdict, that of the verdict 0 beside a refusal
 use mathlib.Core.Bool.{true, false, not}
 use mathlib.Core.Logic.{_↔_}
@@ -70,11 +70,11 @@ pub record VerdictMeans (N : Network) (c : ℕ) (v : Verdict) : Type 0 where
   pub says : Says N c v
 
 -- The refusal's number by the paper's table "Who causes a refusal", the verdict's by its place in the paper's order.
-pub record Numbers : Type 0 where
+pub record VerdictNumbers : Type 0 where
   pub refusal : ℕ
   pub verdict : ℕ
 
-abbrev pub numbersOf : Verdict → Numbers
+abbrev pub numbersOf : Verdict → VerdictNumbers
 numbersOf NotCut = record { refusal = 0; verdict = 1 }
 numbersOf NotMinimal = record { refusal = 0; verdict = 2 }
 numbersOf Minimal = record { refusal = 0; verdict = 3 }

@@ -12,12 +12,13 @@
 --   ListEnds N cuts sides l cuts′ sides′     listing N into rows that held `cuts` and `sides` gives l and leaves cuts′ and sides′
 --   WriterEnds N lent e after        writing N into a buffer that held `lent` gives e and leaves `after`
 --   ReportEnds s t                   for the input s the list program prints t
-use mathlib.Core.List.{List, _++_}
+use mathlib.Core.List.{List}
 use mathlib.Core.Logic.{_↔_}
 use mathlib.Core.Path.{_≡_}
 use Prim.Native.Nat.{ℕ, _≤_, _<_}
 use lib.Dec.{T}
 use lib.ListN.{length, drop}
+use Rattle.sequences.specs.Words.{onto}
 use Rattle.bitset.specs.Members.{_∈_, _⊆_}
 use Rattle.network.specs.declared.Network.{Network}
 use Rattle.network.specs.Record.{among, Stored, faultOf, present}
@@ -66,7 +67,7 @@ pub data ListEnds (N : Network) (cuts sides : List ℕ) : Listed → List ℕ �
 -- The plan's bytes and later bytes as they were; 15 for a buffer that is too short.
 pub data WriterEnds (N : Network) (lent : List ℕ) : Encoded → List ℕ → Type 0 where
   written : Rules N → length (encodeOf N) ≤ length lent
-      → WriterEnds N lent (record { refusal = 0; count = length (encodeOf N) }) (encodeOf N ++ drop (length (encodeOf N)) lent)
+      → WriterEnds N lent (record { refusal = 0; count = length (encodeOf N) }) (onto (encodeOf N) lent)
   faulty : 0 < faultOf N → WriterEnds N lent (record { refusal = faultOf N; count = 0 }) lent
   short : Rules N → length lent < length (encodeOf N) → WriterEnds N lent (record { refusal = 15; count = 0 }) lent
 

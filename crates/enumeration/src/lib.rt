@@ -1,4 +1,4 @@
-// The enumeration of the source sides (the paper's adjacent sides): a node beside the side joins it, or is left out for good.
+// The enumeration of the source sides (the paper's near sides): a node beside the side joins it, or is left out for good.
 use branches::Branch;
 use edge_set::EdgeSet;
 use network::Network;

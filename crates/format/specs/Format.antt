@@ -41,6 +41,7 @@ use mathlib.Core.Path.{_≡_}
 use Prim.Native.Nat.{ℕ, zero, suc, _≤_}
 use lib.Dec.{ltb, eqb}
 use lib.ListN.{length, getD, take, drop}
+use Rattle.sequences.specs.Words.{onto}
 use Rattle.network.specs.declared.Network.{Network}
 use Rattle.network.specs.Record.{_when_, _then_, unlessRefused, sizeFault, terminalFault, endFault, faultOf, slots, Slot, slot, bare, noNetwork, withEdge}
 use Rattle.format.specs.declared.Decoded.{Decoded}
@@ -175,7 +176,7 @@ encodedBy N lent = let r = encodeRefusal N lent in record { refusal = r; count =
 
 -- The bytes of N, and past them what the buffer held; on refusal all that it held.
 unfoldable pub bytesAfter : Network → List ℕ → List ℕ
-bytesAfter N lent = unlessRefused (encodeRefusal N lent) (encodeOf N ++ drop (length (encodeOf N)) lent) lent
+bytesAfter N lent = unlessRefused (encodeRefusal N lent) (onto (encodeOf N) lent) lent
 
 -- The first n bytes of a plan stand in a buffer that held `lent`, which is long enough for all of it.
 pub record WrittenTo (plan lent : List ℕ) (n : ℕ) (buffer : List ℕ) : Type 0 where
