@@ -51,13 +51,13 @@ intersection-and s u t both = same-members t (bitAnd s u) (λ j. rw (both j, has
 pub union-or : (s u t : ℕ) → ((j : ℕ) → has t j ≡ has s j || has u j) → t ≡ bitOr s u
 union-or s u t either = same-members t (bitOr s u) (λ j. rw (either j, has-or s u j))
 
--- The set of a number alone, if that is below 32.
-pub in-alone : (k t : ℕ) → ((j : ℕ) → has t j ≡ eqb j k && ltb k 32) → (j : ℕ) → (j ∈ t) ↔ ((j ≡ k) × (k < 32))
-in-alone k t alone j =
-    let both = T-and (eqb j k) (ltb k 32) in
+-- The set of a number alone, if that is below the width.
+pub in-alone : (w k t : ℕ) → ((j : ℕ) → has t j ≡ eqb j k && ltb k w) → (j : ℕ) → (j ∈ t) ↔ ((j ≡ k) × (k < w))
+in-alone w k t alone j =
+    let both = T-and (eqb j k) (ltb k w) in
     rw (alone j) (
-      λ m. let p = both .0 m in (T-eqb j k .0 (p .0), ltb→lt k 32 (p .1)),
-      λ p. both .1 (T-eqb j k .1 (p .0), lt→ltb k 32 (p .1)),
+      λ m. let p = both .0 m in (T-eqb j k .0 (p .0), ltb→lt k w (p .1)),
+      λ p. both .1 (T-eqb j k .1 (p .0), lt→ltb k w (p .1)),
     )
 
 -- A set below 2 ^ w has no member past w.

@@ -4,7 +4,7 @@ use mathlib.Core.Path.{_≡_, refl, sym, ap, _∙_}
 use mathlib.Core.Logic.{_↔_, _⊎_, inl, inr}
 use mathlib.Core.Bool.{Bool, true, false, not, _&&_, or-false, and-true, and-self, true≢false}
 use Prim.Native.Nat.{ℕ, zero, suc, _+_, _-_, _/_, _%_, _^_, _≤_, _<_, zero-le, suc-le-suc}
-use native.Mathlib.Nat.{le-refl, pow-suc, not-suc-le-zero, le-of-suc-le-suc, zero-lt-suc, eq-or-lt-of-le}
+use native.Mathlib.Nat.{le-refl, pow-suc, not-suc-le-zero, le-of-suc-le-suc, zero-lt-suc, eq-or-lt-of-le, lt-of-lt-of-le}
 use native.Mathlib.Omega.{arith}
 use borrow.Author.Tests.{ne-eqb}
 use lib.Arith.{lt-one}
@@ -107,6 +107,13 @@ lowest-none w s r low = (
   λ e k h. low .none-below k (omega arith),
   λ none. let full : ¬ (r < w) = λ h. true≢false (sym (low .member h) ∙ none r h) in omega arith,
 )
+
+-- There is one lowest member.
+pub lowest-unique : (w s q r : ℕ) → Lowest w s q → Lowest w s r → q ≡ r
+lowest-unique w s q r a b =
+    let one : ¬ (q < r) = λ h. true≢false (sym (a .member (lt-of-lt-of-le h (b .within))) ∙ b .none-below q h) in
+    let other : ¬ (r < q) = λ h. true≢false (sym (b .member (lt-of-lt-of-le h (a .within))) ∙ a .none-below r h) in
+    omega arith
 
 -- A number and the number before it share all members but the lowest, j.
 less-one : (j s : ℕ) → has s j ≡ true → ((k : ℕ) → k < j → has s k ≡ false) → (k : ℕ) → has s k && has (s - 1) k ≡ has s k && not (eqb k j)

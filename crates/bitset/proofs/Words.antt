@@ -1,4 +1,4 @@
--- What the operations on words of w bits do to the members; the code uses them at the widths 32 and 64.
+-- What the operations on words of w bits do to the members.
 -- Assumes nothing.
 use mathlib.Core.Path.{_≡_, refl, sym, _∙_}
 use mathlib.Core.Bool.{Bool, true, false, not, _&&_, _||_, and-comm, and-true, and-false, or-false}

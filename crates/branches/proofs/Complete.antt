@@ -13,6 +13,7 @@ use Rattle.sequences.specs.Distinct.{Distinct}
 use Rattle.bitset.specs.Members.{_∖_, size}
 use Rattle.bitset.proofs.Subsets.{zero-⊆}
 use Rattle.bitset.proofs.Sets.{in-insert, in-drop, not-zero, size-drop}
+use Rattle.node_set.specs.Width.{nodeWidth}
 use Rattle.network.specs.declared.Network.{Network}
 use Rattle.graph.specs.Cuts.{Mincut}
 use Rattle.graph.specs.SourceSides.{SourceSide}
@@ -87,12 +88,12 @@ module _ (N : Network) (S : Sound N) where
   cuts-once = all-listed .once
 
   -- There are no more rows than sets of relevant nodes between source and sink.
-  pub rows-at-most : length (rows N) ≤ 2 ^ (size 32 (relevantNodes N) - 2)
+  pub rows-at-most : length (rows N) ≤ 2 ^ (size nodeWidth (relevantNodes N) - 2)
   unfolding blank joined
   rows-at-most =
       let all : ℕ = relevantNodes N in
-      let one = size-drop 32 all (N .sink) (lt-of-lt-of-le (S .sink-lt) (S .small)) (sink-relevant N S) in
-      let two = size-drop 32 (all ∖ 2 ^ N .sink) (N .source) (lt-of-lt-of-le (S .source-lt) (S .small))
+      let one = size-drop nodeWidth all (N .sink) (lt-of-lt-of-le (S .sink-lt) (S .small)) (sink-relevant N S) in
+      let two = size-drop nodeWidth (all ∖ 2 ^ N .sink) (N .source) (lt-of-lt-of-le (S .source-lt) (S .small))
       (in-drop all (N .sink) (N .source) .1 (in-relevantNodes N S (N .source) .1 (inl refl), S .differ)) in
-      let count : size 32 all - 2 ≡ size 32 (all ∖ 2 ^ N .sink ∖ 2 ^ N .source) = omega arith in
+      let count : size nodeWidth all - 2 ≡ size nodeWidth (all ∖ 2 ^ N .sink ∖ 2 ^ N .source) = omega arith in
       rw count (rows-bound (relevantNetwork N) (start N))

@@ -23,6 +23,7 @@ use Rattle.network.specs.declared.Network.{Network}
 use Rattle.graph.specs.Cuts.{only}
 use Rattle.graph.specs.Relevant.{boundaryOf}
 use Rattle.sequences.proofs.Distinct.{distinct-append}
+use Rattle.node_set.specs.Width.{nodeWidth}
 use Rattle.graph.proofs.Sound.{Sound}
 use Rattle.graph.proofs.Relevant.{in-relevantNodes, relevant-lt}
 use Rattle.graph.proofs.Correspondence.{boundary-injective}
@@ -55,7 +56,7 @@ leftOut-test b reached v = (
 module _ (N : Network) (S : Sound N) where
   -- ---- the halves of an open branch
 
-  module _ (b : Branch) (o : Open N b) (h : candidate b < 32) where
+  module _ (b : Branch) (o : Open N b) (h : candidate b < nodeWidth) where
     -- With the candidate joined, the parts of the branch are what they are to be.
     join-grown : Grown N (joined (relevantNetwork N) b (candidate b))
     join-grown = joined-grown N S b (o .grown) (candidate b) (candidate-in b h .0) (candidate-in b h .1)
@@ -75,7 +76,7 @@ module _ (N : Network) (S : Sound N) where
   -- ---- which rows
 
   -- A branch without a candidate has its side alone as a source side.
-  leaf-exactly : (b : Branch) → Open N b → 32 ≤ candidate b → RowsExactly N b (rowOf b ∷ [])
+  leaf-exactly : (b : Branch) → Open N b → nodeWidth ≤ candidate b → RowsExactly N b (rowOf b ∷ [])
   leaf-exactly b o h r =
       let none : (v : ℕ) → v ∈ b .around .0 → v ∈ b .undecided .0 → ⊥ =
       λ v m n. candidate-none b h v
@@ -138,7 +139,7 @@ module _ (N : Network) (S : Sound N) where
   half-some false b t some = absurd t
 
   -- Where the sink does not reach the candidate, the half in which it joins is open.
-  join-test : (b : Branch) → Open N b → candidate b < 32 → (candidate b ∈ b .rest .0 → ⊥) → T (isOpen (joined (relevantNetwork N) b (candidate b)))
+  join-test : (b : Branch) → Open N b → candidate b < nodeWidth → (candidate b ∈ b .rest .0 → ⊥) → T (isOpen (joined (relevantNetwork N) b (candidate b)))
   unfolding joined only
   join-test b o h off =
       let v : ℕ = candidate b in
@@ -154,13 +155,13 @@ module _ (N : Network) (S : Sound N) where
     pub some : 0 < length l
 
   -- A branch without a candidate.
-  leaf-listed : (b : Branch) → 32 ≤ candidate b → Open N b → Listed b (rowsOf (relevantNetwork N) b)
+  leaf-listed : (b : Branch) → nodeWidth ≤ candidate b → Open N b → Listed b (rowsOf (relevantNetwork N) b)
   unfolding Distinct
   leaf-listed b h o =
       rw (rows-leaf (relevantNetwork N) b h) (record { exactly = leaf-exactly b o h; once = (List·Memᴰ·not-nil, tt); some = le-refl 1 })
 
   -- A branch with a candidate.
-  split-listed : (b : Branch) → candidate b < 32
+  split-listed : (b : Branch) → candidate b < nodeWidth
       → (Open N (joined (relevantNetwork N) b (candidate b))
       → Listed (joined (relevantNetwork N) b (candidate b)) (rowsOf (relevantNetwork N) (joined (relevantNetwork N) b (candidate b))))
       → (Open N (leftOut b (candidate b)) → Listed (leftOut b (candidate b)) (rowsOf (relevantNetwork N) (leftOut b (candidate b))))

@@ -11,7 +11,7 @@
 --
 --   relevantNetwork N    N with the relevant edges alone; the M of the definitions below
 --   blank N              the branch in which nothing is decided yet
---   candidate b          the lowest undecided node beside the side, 32 if there is none
+--   candidate b          the lowest undecided node beside the side, the width if there is none
 --   joined M b v         the branch b with v joined
 --   leftOut b v          the branch b with v left out
 --   start N              the first branch: the source alone has joined, nothing is left out
@@ -33,6 +33,7 @@ use lib.Bits.{bitAnd, bitOr, bitXor}
 use lib.Count.{trailingZeros}
 use lib.Dec.{eqb, ltb}
 use Rattle.bitset.specs.Members.{has, insert, _∖_, size}
+use Rattle.node_set.specs.Width.{nodeWidth}
 use Rattle.network.specs.declared.Network.{Network}
 use Rattle.graph.specs.Cuts.{only}
 use Rattle.graph.specs.Reach.{round}
@@ -56,7 +57,7 @@ blank N = record {
 }
 
 abbrev pub candidate : Branch → ℕ
-candidate b = trailingZeros 32 (bitAnd (b .around .0) (b .undecided .0))
+candidate b = trailingZeros nodeWidth (bitAnd (b .around .0) (b .undecided .0))
 
 -- What the sink reaches without v it reaches in what it reached before.
 unfoldable pub joined : Network → Branch → ℕ → Branch
@@ -103,7 +104,7 @@ unfoldable pub branchRows : Network → ℕ → Branch → List Row
 branchRows M zero b = rowOf b ∷ []
 branchRows M (suc n) b =
     let v = candidate b in
-    elim (ltb v 32) [
+    elim (ltb v nodeWidth) [
       | true ↦
           elim (isOpen (joined M b v)) [ true ↦ branchRows M n (joined M b v) | false ↦ [] ]
           ++ elim (has (b .rest .0) v) [ true ↦ branchRows M n (leftOut b v) | false ↦ [] ]
@@ -111,7 +112,7 @@ branchRows M (suc n) b =
     ]
 
 unfoldable pub rowsOf : Network → Branch → List Row
-rowsOf M b = branchRows M (size 32 (b .undecided .0)) b
+rowsOf M b = branchRows M (size nodeWidth (b .undecided .0)) b
 
 abbrev pub rowsIf : Bool → Network → Branch → List Row
 rowsIf t M b = elim t [ true ↦ rowsOf M b | false ↦ [] ]

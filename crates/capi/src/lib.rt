@@ -4,6 +4,7 @@
 // A slice passes as a pointer and a length, an array or a single number as a pointer.
 use edge_set::EdgeSet;
 use network::Network;
+use node_set::NodeWord;
 ghost use mathlib.Core.Path.{_≡_};
 ghost use Rattle.network.specs.Record.{assembled, faultOf};
 ghost use Rattle.network.specs.Rules.{FaultMeans};
@@ -111,7 +112,7 @@ pub extern "C" fn cutlist_relevant(
     present: u64,
     first: &[u8; 64],
     second: &[u8; 64],
-    node_set: &mut u32,
+    node_set: &mut NodeWord,
     edge_set: &mut u64,
 ) -> u8
     ensures { λ r. ⌜ Found (assembled nodes source sink present (now (first .entry)) (now (second .entry))) r (now («node_set» .exit)) (now («edge_set» .exit)) ⌝ }
@@ -160,7 +161,7 @@ pub extern "C" fn cutlist_list(
     first: &[u8; 64],
     second: &[u8; 64],
     cuts: &mut [u64],
-    sides: &mut [u32],
+    sides: &mut [NodeWord],
     count: &mut usize,
 ) -> u8
     ensures { λ r. ⌜ Listing (assembled nodes source sink present (now (first .entry)) (now (second .entry))) (now (cuts .entry)) (now (sides .entry))

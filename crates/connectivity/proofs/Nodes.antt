@@ -14,6 +14,7 @@ use Rattle.bitset.proofs.Subsets.{⊆-antisym}
 use Rattle.sequences.proofs.Tests.{T-and}
 use Rattle.bitset.proofs.Sets.{in-minus, in-drop, minus-⊆, member-lt, in-mod}
 use Rattle.bitset.proofs.Results.{single-power, below-ones, with-member, without-minus}
+use Rattle.node_set.specs.Width.{nodeWidth}
 use Rattle.network.specs.declared.Network.{Network}
 use Rattle.network.specs.Record.{hasEdge, firstEnd, secondEnd, present}
 use Rattle.graph.specs.Cuts.{only}
@@ -80,19 +81,19 @@ others-edges N B c =
     ))
 
 module _ (N : Network) (S : Sound N) (c : ℕ) (h : c < N .nodes) (all others edges source terminals start reached r : ℕ)
-    (is-all : (j : ℕ) → has all j ≡ ltb j (N .nodes) && ltb j 32)
+    (is-all : (j : ℕ) → has all j ≡ ltb j (N .nodes) && ltb j nodeWidth)
     (is-others : (j : ℕ) → has others j ≡ has all j && not (eqb j c))
     (is-edges : edges ≡ edgesWithin N others)
-    (is-source : (j : ℕ) → has source j ≡ eqb j (N .source) && ltb (N .source) 32)
-    (is-terminals : (j : ℕ) → has terminals j ≡ has source j || (eqb j (N .sink) && ltb (N .sink) 32))
+    (is-source : (j : ℕ) → has source j ≡ eqb j (N .source) && ltb (N .source) nodeWidth)
+    (is-terminals : (j : ℕ) → has terminals j ≡ has source j || (eqb j (N .sink) && ltb (N .sink) nodeWidth))
     (is-start : (j : ℕ) → has start j ≡ has terminals j && not (eqb j c))
     (is-reached : edges ⊆ present N → reached ≡ reachOf (only N edges) start)
-    (is-r : (j : ℕ) → has r j ≡ has reached j || (eqb j c && ltb c 32)) where
+    (is-r : (j : ℕ) → has r j ≡ has reached j || (eqb j c && ltb c nodeWidth)) where
   -- The spread is over the edges that are not at c.
   past-edges : edges ≡ present N ∖ edgesAt N c
   past-edges =
       is-edges
-      ∙ ap (edgesWithin N) (without-minus all c others is-others ∙ ap (λ x. x ∖ 2 ^ c) (below-ones 32 (N .nodes) all (S .small) is-all))
+      ∙ ap (edgesWithin N) (without-minus all c others is-others ∙ ap (λ x. x ∖ 2 ^ c) (below-ones nodeWidth (N .nodes) all (S .small) is-all))
       ∙ others-edges N (S .bounded) c
 
   -- It starts at the terminals that are not c.
@@ -100,12 +101,12 @@ module _ (N : Network) (S : Sound N) (c : ℕ) (h : c < N .nodes) (all others ed
   past-start =
       without-minus terminals c start is-start
       ∙ ap (λ x. x ∖ 2 ^ c)
-      (with-member 32 source (N .sink) terminals (omega (arith, S .sink-lt, S .small)) is-terminals
-      ∙ ap (λ x. insert x (N .sink)) (single-power 32 (N .source) source (omega (arith, S .source-lt, S .small)) is-source))
+      (with-member nodeWidth source (N .sink) terminals (omega (arith, S .sink-lt, S .small)) is-terminals
+      ∙ ap (λ x. insert x (N .sink)) (single-power nodeWidth (N .source) source (omega (arith, S .source-lt, S .small)) is-source))
 
   -- With c it is the set of the nodes past c.
   pub past-made : r ≡ past N c
   unfolding past
   past-made =
       let fits = is-reached (rw past-edges (minus-⊆ (present N) (edgesAt N c))) in
-      with-member 32 reached c r (omega (arith, S .small)) is-r ∙ ap (λ x. insert x c) (rw (← past-edges, ← past-start) fits)
+      with-member nodeWidth reached c r (omega (arith, S .small)) is-r ∙ ap (λ x. insert x c) (rw (← past-edges, ← past-start) fits)

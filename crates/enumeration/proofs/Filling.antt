@@ -13,6 +13,7 @@ use lib.Seq.{getD-set-same, getD-set-other}
 use Rattle.bitset.specs.Members.{insert, _∈_}
 use Rattle.bitset.proofs.Members.{has-zero}
 use Rattle.bitset.proofs.Sets.{in-insert}
+use Rattle.node_set.specs.Width.{nodeWidth}
 use Rattle.network.specs.declared.Network.{Network}
 use Rattle.network.specs.Record.{firstEnd, secondEnd, present}
 use Rattle.graph.specs.Paths.{Joins}
@@ -139,7 +140,7 @@ zeros (suc n) zero = refl
 zeros (suc n) (suc v) = zeros n v
 
 -- The ends of an edge of a sound network have a place in the tables.
-pub ends-fit : (N : Network) → Sound N → (k : ℕ) → k ∈ present N → (firstEnd N k < 32) × (secondEnd N k < 32)
+pub ends-fit : (N : Network) → Sound N → (k : ℕ) → k ∈ present N → (firstEnd N k < nodeWidth) × (secondEnd N k < nodeWidth)
 ends-fit N S k m =
     let j = joins-stored N k m in
     let first = S .bounded .ends k (secondEnd N k) (firstEnd N k) (joins-sym N k (firstEnd N k) (secondEnd N k) j) in

@@ -11,6 +11,7 @@ use lib.ListN.{getD}
 use Rattle.bitset.specs.Members.{has, insert, _∖_, size, _∈_}
 use Rattle.bitset.proofs.Subsets.{⊆-refl}
 use Rattle.bitset.proofs.Sets.{in-insert, in-single, in-drop, same-set, in-or, size-drop}
+use Rattle.node_set.specs.Width.{nodeWidth}
 use Rattle.network.specs.declared.Network.{Network}
 use Rattle.graph.specs.Reach.{round, Bounded}
 use Rattle.graph.specs.Relevant.{reachIn, edgesAt}
@@ -28,7 +29,7 @@ use Rattle.enumeration.proofs.Putting.{put-none, put-both}
 
 module _ (M : Network) (B : Bounded M) where
   -- The node v and the nodes beside it are the round of v.
-  pub beside-round : (near : List ℕ) → Adjacency M near → (v : ℕ) → v < 32 → (s : ℕ) → insert (bitOr s (getD near v 0)) v ≡ bitOr s (round M (2 ^ v))
+  pub beside-round : (near : List ℕ) → Adjacency M near → (v : ℕ) → v < nodeWidth → (s : ℕ) → insert (bitOr s (getD near v 0)) v ≡ bitOr s (round M (2 ^ v))
   beside-round near table v h s = same-set (λ k.
       let over = in-round M (B .edges) (2 ^ v) k in (
         λ m. in-or s (round M (2 ^ v)) k .1 (elim (in-insert (bitOr s (getD near v 0)) v k .0 m) [
@@ -48,7 +49,7 @@ module _ (M : Network) (B : Bounded M) where
       ))
 
   -- The table has the edges at v.
-  pub at-edges : (at : List ℕ) → Incidence M at → (v : ℕ) → v < 32 → getD at v 0 ≡ edgesAt M v
+  pub at-edges : (at : List ℕ) → Incidence M at → (v : ℕ) → v < nodeWidth → getD at v 0 ≡ edgesAt M v
   at-edges at table v h = same-set (λ e.
       let both = in-edgesAt M B v e in (
         λ m. both .1 (table v e h .0 m),
@@ -96,11 +97,11 @@ leftOut-undecided b d v e = ap (λ (x : Branch). x .undecided .0) e
 -- ---- what is left undecided
 
 -- With v decided fewer nodes are undecided.
-pub undecided-fewer : (s t v : ℕ) → v < 32 → v ∈ s → t ≡ s ∖ 2 ^ v → size 32 t < size 32 s
-undecided-fewer s t v h m e = rw e (omega (arith, size-drop 32 s v h m))
+pub undecided-fewer : (s t v : ℕ) → v < nodeWidth → v ∈ s → t ≡ s ∖ 2 ^ v → size nodeWidth t < size nodeWidth s
+undecided-fewer s t v h m e = rw e (omega (arith, size-drop nodeWidth s v h m))
 
 -- A candidate is undecided.
-pub candidate-free : (b : Branch) (w : ℕ) → w ≡ candidate b → w < 32 → w ∈ b .undecided .0
+pub candidate-free : (b : Branch) (w : ℕ) → w ≡ candidate b → w < nodeWidth → w ∈ b .undecided .0
 candidate-free b w low h = rw low (candidate-in b (rw low at h) .1)
 
 -- ---- the ways through a half
@@ -128,11 +129,11 @@ module _ (M : Network) (l : List Row) (t : Bool) (d : Branch) (half : l ≡ rows
 
   module _ (e : t ≡ true) (w : ℕ) (low : w ≡ candidate d) where
     -- Without a candidate it has one row.
-    pub leaf-put : 32 ≤ w → (cuts′ sides′ : List ℕ) (r : ℕ) → Put (rowOf d ∷ []) n limit cuts sides cuts′ sides′ r → Put l n limit cuts sides cuts′ sides′ r
+    pub leaf-put : nodeWidth ≤ w → (cuts′ sides′ : List ℕ) (r : ℕ) → Put (rowOf d ∷ []) n limit cuts sides cuts′ sides′ r → Put l n limit cuts sides cuts′ sides′ r
     leaf-put h cuts′ sides′ r p = rw (half, e, rows-leaf M d (rw low at h)) p
 
     -- With one it has the rows in which the candidate joins and those in which it is left out.
-    pub split-put : w < 32 → (m r : ℕ) (cuts′ sides′ cuts″ sides″ : List ℕ) → Put (joinRows M d w) n limit cuts sides cuts′ sides′ m
+    pub split-put : w < nodeWidth → (m r : ℕ) (cuts′ sides′ cuts″ sides″ : List ℕ) → Put (joinRows M d w) n limit cuts sides cuts′ sides′ m
         → Put (leaveOutRows M d w) m limit cuts′ sides′ cuts″ sides″ r → Put l n limit cuts sides cuts″ sides″ r
     split-put h m r cuts′ sides′ cuts″ sides″ p q =
         rw (half, e, rows-split M d (rw low at h), ← low)

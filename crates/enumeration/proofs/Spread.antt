@@ -19,6 +19,7 @@ use Rattle.bitset.proofs.Subsets.{⊆-refl, ⊆-antisym, subset-lt, same-test}
 use Rattle.bitset.proofs.Sets.{∈-dec, in-and, in-minus, member-lt, in-or}
 use Rattle.bitset.proofs.Results.{intersection-and, difference-minus, union-or}
 use Rattle.bitset.proofs.Scans.{Less}
+use Rattle.node_set.specs.Width.{nodeWidth}
 use Rattle.network.specs.declared.Network.{Network}
 use Rattle.graph.specs.Reach.{Bounded}
 use Rattle.graph.specs.Relevant.{reachIn}
@@ -31,7 +32,7 @@ Kept near within t = (v w : ℕ) → v ∈ t → w ∈ getD near v 0 → w ∈ w
 
 -- The nodes reached are none but those that must be; of those that are no longer fresh, all beside them inside the set are reached.
 pub record Spread (near : List ℕ) (within start reached fresh : ℕ) : Type 0 where
-  pub first : start < 32 → start ∈ reached
+  pub first : start < nodeWidth → start ∈ reached
   pub part : fresh ⊆ reached
   pub done : (v : ℕ) → v ∈ reached → (v ∈ fresh → ⊥) → (w : ℕ) → w ∈ getD near v 0 → w ∈ within → w ∈ reached
   pub least : (t : ℕ) → start ∈ t → Kept near within t → reached ⊆ t
@@ -65,7 +66,7 @@ turn-of beside within reached fresh v inside found others reached′ fresh′ le
 
 module _ (near : List ℕ) (within start : ℕ) where
   -- Incidence first the start alone is reached, if it is a node, and it is fresh.
-  pub spread-first : (t : ℕ) → ((j : ℕ) → (j ∈ t) ↔ ((j ≡ start) × (start < 32))) → Spread near within start t t
+  pub spread-first : (t : ℕ) → ((j : ℕ) → (j ∈ t) ↔ ((j ≡ start) × (start < nodeWidth))) → Spread near within start t t
   spread-first t alone = record {
     first = λ h. alone start .1 (refl, h);
     part = ⊆-refl t;
@@ -125,12 +126,12 @@ module _ (near : List ℕ) (within start : ℕ) where
 
   -- Where none is fresh, what is reached is what the start reaches inside the set.
   pub spread-last : (reached fresh : ℕ) → Spread near within start reached fresh → ((j : ℕ) → j ∈ fresh → ⊥)
-      → reached < 2 ^ 32 → within < 2 ^ 32
+      → reached < 2 ^ nodeWidth → within < 2 ^ nodeWidth
       → (M : Network) → Bounded M → Adjacency M near → start ∈ within → reached ≡ reachIn M within start
   spread-last reached fresh s none small narrow M B table there =
       ⊆-antisym reached (reachIn M within start)
       (s .least (reachIn M within start) (reachIn-start M B within start there) (λ x y m i k.
-      let j = table x y (member-lt 32 within x narrow (reachIn-⊆ M B within start there x m)) .0 i in
+      let j = table x y (member-lt nodeWidth within x narrow (reachIn-⊆ M B within start there x m)) .0 i in
       reachIn-over M B within start there (j .0) x y (j .1) k m))
-      (reachIn-induct M B within start there (λ x. x ∈ reached) (s .first (member-lt 32 within start narrow there)) (λ e x y j i k.
-      s .done x k (none x) y (table x y (member-lt 32 reached x small k) .1 (e, j)) i))
+      (reachIn-induct M B within start there (λ x. x ∈ reached) (s .first (member-lt nodeWidth within start narrow there)) (λ e x y j i k.
+      s .done x k (none x) y (table x y (member-lt nodeWidth reached x small k) .1 (e, j)) i))

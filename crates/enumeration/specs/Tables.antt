@@ -9,15 +9,16 @@ use mathlib.Core.Logic.{_↔_}
 use Prim.Native.Nat.{ℕ, _<_}
 use lib.ListN.{getD}
 use Rattle.bitset.specs.Members.{_∈_}
+use Rattle.node_set.specs.Width.{nodeWidth}
 use Rattle.network.specs.declared.Network.{Network}
 use Rattle.graph.specs.Reach.{Bounded}
 use Rattle.graph.specs.Paths.{Joins}
 
 abbrev pub Adjacency : Network → List ℕ → Type 0
-Adjacency M adjacent = (v w : ℕ) → v < 32 → (w ∈ getD adjacent v 0) ↔ ((e : ℕ) × Joins M e v w)
+Adjacency M adjacent = (v w : ℕ) → v < nodeWidth → (w ∈ getD adjacent v 0) ↔ ((e : ℕ) × Joins M e v w)
 
 abbrev pub Incidence : Network → List ℕ → Type 0
-Incidence M incident = (v e : ℕ) → v < 32 → (e ∈ getD incident v 0) ↔ ((w : ℕ) × Joins M e v w)
+Incidence M incident = (v e : ℕ) → v < nodeWidth → (e ∈ getD incident v 0) ↔ ((w : ℕ) × Joins M e v w)
 
 pub record Tables (M : Network) (adjacent incident : List ℕ) : Type 0 where
   pub bounded : Bounded M

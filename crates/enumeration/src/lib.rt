@@ -2,12 +2,15 @@
 use branches::Branch;
 use edge_set::EdgeSet;
 use network::Network;
+use node_set::NODE_WIDTH;
 use node_set::NodeSet;
+use node_set::NodeWord;
 ghost use mathlib.Core.Path.{_≡_};
 ghost use mathlib.Core.List.{[], _∷_};
 ghost use Prim.Native.Nat.{_^_, _≤_, _<_};
 ghost use lib.ListN.{getD, set, replicate};
 ghost use Rattle.bitset.specs.Members.{insert, _∈_, _⊆_, _∖_};
+ghost use Rattle.node_set.specs.Width.{nodeWidth};
 ghost use Rattle.network.specs.Record.{faultOf, present};
 ghost use Rattle.graph.specs.Reach.{Bounded};
 ghost use Rattle.graph.specs.Cuts.{only};
@@ -18,9 +21,12 @@ ghost use Rattle.enumeration.specs.Rows.{Capacity, Put, JoinedBranch, Jo
 
 // ---- the tables
 
+// A table has a row for each node that there can be.
+const NODES: usize = NODE_WIDTH as usize;
+
 // The node b is beside the node a.
-fn add_adjacent(adjacent: &mut [u32; 32], a: u8, b: u8)
-    requires { ⌜ (a < 32) × (b < 32) ⌝ }
+fn add_adjacent(adjacent: &mut [NodeWord; NODES], a: u8, b: u8)
+    requires { ⌜ (a < nodeWidth) × (b < nodeWidth) ⌝ }
     ensures { λ _. ⌜ now (adjacent .exit) ≡ set (now (adjacent .entry)) a (insert (getD (now (adjacent .entry)) a 0) b) ⌝ }
 {
     let slot = a as usize;
@@ -29,8 +35,8 @@ fn add_adjacent(adjacent: &mut [u32; 32], a: u8, b: u8)
 }
 
 // The edge e is at the node a.
-fn add_incident(incident: &mut [u64; 32], a: u8, e: u32)
-    requires { ⌜ (a < 32) × (e < 64) ⌝ }
+fn add_incident(incident: &mut [u64; NODES], a: u8, e: u32)
+    requires { ⌜ (a < nodeWidth) × (e < 64) ⌝ }
     ensures { λ _. ⌜ now (incident .exit) ≡ set (now (incident .entry)) a (insert (getD (now (incident .entry)) a 0) e) ⌝ }
 {
     let slot = a as usize;
@@ -39,8 +45,13 @@ fn add_incident(incident: &mut [u64; 32], a: u8, e: u32)
 }
 
 // For each node the nodes beside it and the edges at it, over the given edges, into two empty tables.
-fn fill_tables(network: Network, edges: EdgeSet, adjacent: &mut [u32; 32], incident: &mut [u64; 32])
-    requires { ⌜ (faultOf network ≡ 0) × (edges .0 ⊆ present network) × (now adjacent ≡ replicate 32 0) × (now incident ≡ replicate 32 0) ⌝ }
+fn fill_tables(
+    network: Network,
+    edges: EdgeSet,
+    adjacent: &mut [NodeWord; NODES],
+    incident: &mut [u64; NODES],
+)
+    requires { ⌜ (faultOf network ≡ 0) × (edges .0 ⊆ present network) × (now adjacent ≡ replicate nodeWidth 0) × (now incident ≡ replicate nodeWidth 0) ⌝ }
     ensures { λ _. ⌜ Adjacency (only network (edges .0)) (now (adjacent .exit)) × Incidence (only network (edges .0)) (now (incident .exit)) ⌝ }
 {
     let mut left = edges;
@@ -61,7 +72,7 @@ fn fill_tables(network: Network, edges: EdgeSet, adjacent: &mut [u32; 32], incid
 // ---- the branches
 
 // What the start reaches by walks that stay inside the set: of the nodes found, each in turn finds those beside it.
-fn reach_in(adjacent: &[u32; 32], within: NodeSet, start: u32) -> NodeSet
+fn reach_in(adjacent: &[NodeWord; NODES], within: NodeSet, start: u32) -> NodeSet
     ensures { λ r. ⌜ ((M : Network) → Bounded M → Adjacency M (now (adjacent .entry)) → start ∈ within .0 → r .0 ≡ reachIn M (within .0) start) ⌝ }
 {
     let first = NodeSet::single(start);
@@ -69,7 +80,7 @@ fn reach_in(adjacent: &[u32; 32], within: NodeSet, start: u32) -> NodeSet
     let mut fresh = first;
     let all = loop {
         let v = fresh.lowest();
-        if 32 <= v {
+        if NODE_WIDTH <= v {
             break reached;
         }
         let slot = v as usize;
@@ -83,7 +94,7 @@ fn reach_in(adjacent: &[u32; 32], within: NodeSet, start: u32) -> NodeSet
 }
 
 // What the sink reaches once v has joined: as before if it did not reach v.
-fn rest_without(adjacent: &[u32; 32], rest: NodeSet, v: u32, sink: u32) -> NodeSet
+fn rest_without(adjacent: &[NodeWord; NODES], rest: NodeSet, v: u32, sink: u32) -> NodeSet
     ensures { λ r. ⌜ ((M : Network) → Bounded M → Adjacency M (now (adjacent .entry)) → sink ∈ (rest .0 ∖ 2 ^ v)
         → ((v ∈ rest .0 → ⊥) → reachIn M (rest .0) sink ≡ rest .0) → r .0 ≡ reachIn M (rest .0 ∖ 2 ^ v) sink) ⌝ }
 {
@@ -95,8 +106,14 @@ fn rest_without(adjacent: &[u32; 32], rest: NodeSet, v: u32, sink: u32) -> NodeS
 }
 
 // The branch with v joined.
-fn joined(adjacent: &[u32; 32], incident: &[u64; 32], b: Branch, v: u32, sink: u32) -> Branch
-    requires { ⌜ v < 32 ⌝ }
+fn joined(
+    adjacent: &[NodeWord; NODES],
+    incident: &[u64; NODES],
+    b: Branch,
+    v: u32,
+    sink: u32,
+) -> Branch
+    requires { ⌜ v < nodeWidth ⌝ }
     ensures { λ r. ⌜ (r .undecided .0 ≡ b .undecided .0 ∖ 2 ^ v) × JoinedBranch (now (adjacent .entry)) (now (incident .entry)) sink b v r ⌝ }
 {
     let slot = v as usize;
@@ -104,9 +121,11 @@ fn joined(adjacent: &[u32; 32], incident: &[u64; 32], b: Branch, v: u32, sink: u
     let out = b.out;
     let undecided = b.undecided.without(v);
     let rest = rest_without(adjacent, b.rest, v, sink);
-    let beside = b.around.union(NodeSet(adjacent[slot]));
+    let nodes = adjacent[slot];
+    let beside = b.around.union(NodeSet(nodes));
     let around = beside.with(v);
-    let cut = EdgeSet(b.cut.0 ^ incident[slot]);
+    let edges = incident[slot];
+    let cut = EdgeSet(b.cut.0 ^ edges);
     Branch {
         side,
         out,
@@ -119,7 +138,7 @@ fn joined(adjacent: &[u32; 32], incident: &[u64; 32], b: Branch, v: u32, sink: u
 
 // The branch with v left out.
 fn left_out(b: Branch, v: u32) -> Branch
-    requires { ⌜ v < 32 ⌝ }
+    requires { ⌜ v < nodeWidth ⌝ }
     ensures { λ r. ⌜ r ≡ leftOut b v ⌝ }
 {
     let side = b.side;
@@ -138,12 +157,11 @@ fn left_out(b: Branch, v: u32) -> Branch
     }
 }
 
-// The lowest undecided node beside the side, 32 if there is none.
+// The lowest undecided node beside the side; the width if there is none.
 fn candidate(b: Branch) -> u32
     ensures { λ r. ⌜ r ≡ candidate b ⌝ }
 {
-    let beside = b.around.intersection(b.undecided);
-    u32::trailing_zeros(beside.0)
+    b.around.intersection(b.undecided).lowest()
 }
 
 // Whether the sink still reaches all that is left out.
@@ -166,7 +184,7 @@ fn put_cut(cuts: &mut [u64], n: usize, cut: EdgeSet)
 }
 
 // The side at place n, where the area has one.
-fn put_side(sides: &mut [u32], n: usize, side: NodeSet)
+fn put_side(sides: &mut [NodeWord], n: usize, side: NodeSet)
     ensures { λ _. ⌜ now (sides .exit) ≡ set (now (sides .entry)) n (side .0) ⌝ }
 {
     if n < sides.len() {
@@ -175,7 +193,7 @@ fn put_side(sides: &mut [u32], n: usize, side: NodeSet)
 }
 
 // The row of a branch without a candidate, at place n. Gives the place after it.
-fn put_row(b: Branch, cuts: &mut [u64], sides: &mut [u32], n: usize, limit: usize) -> usize
+fn put_row(b: Branch, cuts: &mut [u64], sides: &mut [NodeWord], n: usize, limit: usize) -> usize
     requires { ⌜ (n ≤ limit) × Capacity n limit (now cuts) (now sides) ⌝ }
     ensures { λ r. ⌜ Capacity r limit (now (cuts .exit)) (now (sides .exit)) × Put (rowOf b ∷ [])
         n limit (now (cuts .entry)) (now (sides .entry)) (now (cuts .exit)) (now (sides .exit)) r ⌝ }
@@ -187,17 +205,17 @@ fn put_row(b: Branch, cuts: &mut [u64], sides: &mut [u32], n: usize, limit: usiz
 
 // Writes the rows in which v joins from place n on, and gives the place after them. One row past the limit, which no area holds, is enough.
 fn join(
-    adjacent: &[u32; 32],
-    incident: &[u64; 32],
+    adjacent: &[NodeWord; NODES],
+    incident: &[u64; NODES],
     sink: u32,
     b: Branch,
     v: u32,
     cuts: &mut [u64],
-    sides: &mut [u32],
+    sides: &mut [NodeWord],
     n: usize,
     limit: usize,
 ) -> usize
-    requires { ⌜ (v < 32) × (v ∈ b .undecided .0) × Capacity n limit (now cuts) (now sides) ⌝ }
+    requires { ⌜ (v < nodeWidth) × (v ∈ b .undecided .0) × Capacity n limit (now cuts) (now sides) ⌝ }
     ensures { λ r. ⌜ Capacity r limit (now (cuts .exit)) (now (sides .exit)) × JoinPut (now (adjacent .entry)) (now (incident .entry)) sink b v
         n limit (now (cuts .entry)) (now (sides .entry)) (now (cuts .exit)) (now (sides .exit)) r ⌝ }
 {
@@ -209,7 +227,7 @@ fn join(
         return n;
     }
     let w = candidate(next);
-    if 32 <= w {
+    if NODE_WIDTH <= w {
         return put_row(next, cuts, sides, n, limit);
     }
     let m = join(adjacent, incident, sink, next, w, cuts, sides, n, limit);
@@ -218,17 +236,17 @@ fn join(
 
 // Writes the rows in which v is left out for good from place n on, and gives the place after them.
 fn leave_out(
-    adjacent: &[u32; 32],
-    incident: &[u64; 32],
+    adjacent: &[NodeWord; NODES],
+    incident: &[u64; NODES],
     sink: u32,
     b: Branch,
     v: u32,
     cuts: &mut [u64],
-    sides: &mut [u32],
+    sides: &mut [NodeWord],
     n: usize,
     limit: usize,
 ) -> usize
-    requires { ⌜ (v < 32) × (v ∈ b .undecided .0) × Capacity n limit (now cuts) (now sides) ⌝ }
+    requires { ⌜ (v < nodeWidth) × (v ∈ b .undecided .0) × Capacity n limit (now cuts) (now sides) ⌝ }
     ensures { λ r. ⌜ Capacity r limit (now (cuts .exit)) (now (sides .exit)) × LeaveOutPut (now (adjacent .entry)) (now (incident .entry)) sink b v
         n limit (now (cuts .entry)) (now (sides .entry)) (now (cuts .exit)) (now (sides .exit)) r ⌝ }
 {
@@ -241,7 +259,7 @@ fn leave_out(
     }
     let next = left_out(b, v);
     let w = candidate(next);
-    if 32 <= w {
+    if NODE_WIDTH <= w {
         return put_row(next, cuts, sides, n, limit);
     }
     let m = join(adjacent, incident, sink, next, w, cuts, sides, n, limit);
@@ -268,15 +286,15 @@ pub fn enumerate(
     nodes: NodeSet,
     edges: EdgeSet,
     cuts: &mut [u64],
-    sides: &mut [u32],
+    sides: &mut [NodeWord],
     limit: usize,
 ) -> usize
     requires { ⌜ (faultOf network ≡ 0) × (nodes .0 ≡ relevantNodes network) × (edges .0 ≡ relevantEdges network)
         × Capacity 0 limit (now cuts) (now sides) ⌝ }
     ensures { λ r. ⌜ Put (rows network) 0 limit (now (cuts .entry)) (now (sides .entry)) (now (cuts .exit)) (now (sides .exit)) r ⌝ }
 {
-    let mut adjacent = [0u32; 32];
-    let mut incident = [0u64; 32];
+    let mut adjacent: [NodeWord; NODES] = [0; NODES];
+    let mut incident = [0u64; NODES];
     fill_tables(network, edges, &mut adjacent, &mut incident);
     let source = network.source as u32;
     let sink = network.sink as u32;

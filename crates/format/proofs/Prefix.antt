@@ -10,9 +10,10 @@ use lib.Dec.{ltb}
 use lib.ListN.{length, take, drop, length-take}
 use lib.Seq.{getD-take, take-nil}
 use borrow.Author.Tests.{lt-ltb, le-ltb}
+use Rattle.node_set.specs.Width.{nodeWidth}
 use Rattle.network.specs.declared.Network.{Network}
 use Rattle.network.specs.Record.{withEdge, bare}
-use Rattle.format.specs.Format.{at, sizeRefusal, terminalsRefusal, edgeRefusal, endRefusal, sizeStep, terminalsStep, edgeStep, ifTaken, edges, walk, decodeOf}
+use Rattle.format.specs.Format.{at, sizeRefusal, terminalsRefusal, edgeRefusal, endRefusal, sizeStep, terminalsStep, edgeStep, ifTaken, edges, walk, decodeUpTo, decodeOf}
 use Rattle.format.proofs.Steps.{EdgeView, edge, end, edge-view}
 use Rattle.format.proofs.Walk.{edges-edge, edges-end, edges-refused, edges-turns}
 
@@ -33,9 +34,9 @@ module _ (m : ℕ) (s : List ℕ) where
       go (no l) = le-ltb j _ (omega (arith, length-take m s)) ∙ sym (le-ltb j (length s) (omega arith))
 
   -- So a command's answer is decided by as many bytes as it has.
-  size-take : 2 ≤ m → sizeStep (take m s) ≡ sizeStep s
+  size-take : (most : ℕ) → 2 ≤ m → sizeStep most (take m s) ≡ sizeStep most s
   unfolding sizeStep sizeRefusal
-  size-take h =
+  size-take most h =
       simp (getD-take m s 0 0 (omega arith), getD-take m s 1 0 (omega arith), shorter-take 1 (omega arith), shorter-take 2 h)
 
   terminals-take : (n : ℕ) → 3 ≤ m → terminalsStep n (take m s) ≡ terminalsStep n s
@@ -95,9 +96,9 @@ walk-prefix N s =
 
 -- Reading any bytes and reading their first 265 give the same answer.
 pub decode-prefix : (s : List ℕ) → decodeOf (take 265 s) ≡ decodeOf s
-unfolding decodeOf
+unfolding decodeUpTo
 decode-prefix s =
-    let first : sizeStep (take 265 s) ≡ sizeStep s = size-take 265 s (omega arith) in
+    let first : sizeStep nodeWidth (take 265 s) ≡ sizeStep nodeWidth s = size-take 265 s nodeWidth (omega arith) in
     let second : (n : ℕ) → terminalsStep n (drop 2 (take 265 s)) ≡ terminalsStep n (drop 2 s) =
     λ n. ap (terminalsStep n) (drop-take 2 265 s (omega arith)) ∙ terminals-take 263 (drop 2 s) n (omega arith) in
     let later : (N : Network) → walk N 0 (drop 5 (take 265 s)) ≡ walk N 0 (drop 5 s) =

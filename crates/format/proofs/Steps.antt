@@ -2,7 +2,7 @@
 -- Assumes nothing.
 --
 --   command c k s values     the refusal of the command c with k bytes, from that of its values
---   SizeView s               the answer of the command 50, with what it tells of the bytes
+--   SizeView most s          the answer of the command 50, with what it tells of the bytes
 --   TerminalsView n s        that of 53
 --   EdgeView n next s        that of 43, or of 45
 use mathlib.Core.Bool.{Bool, true, false, not}
@@ -66,25 +66,25 @@ two [] h = absurd (omega arith)
 two (c ∷ []) h = absurd (omega arith)
 two (c ∷ n ∷ s) h = refl
 
-pub data SizeView (s : List ℕ) : Type 0 where
-  size : (n : ℕ) (rest : List ℕ) → sizeStep s ≡ Step.Size n → s ≡ 0x50 ∷ n ∷ rest → sizeFault n ≡ 0 → SizeView s
-  refused : (r : ℕ) → sizeStep s ≡ Step.Refused r → 0 < r → T (among readerRefusals r) → SizeView s
+pub data SizeView (most : ℕ) (s : List ℕ) : Type 0 where
+  size : (n : ℕ) (rest : List ℕ) → sizeStep most s ≡ Step.Size n → s ≡ 0x50 ∷ n ∷ rest → sizeFault most n ≡ 0 → SizeView most s
+  refused : (r : ℕ) → sizeStep most s ≡ Step.Refused r → 0 < r → T (among readerRefusals r) → SizeView most s
 
-pub size-view : (s : List ℕ) → SizeView s
+pub size-view : (most : ℕ) (s : List ℕ) → SizeView most s
 unfolding among sizeStep sizeRefusal sizeFault
-size-view s = go (sizeRefusal s) refl
+size-view most s = go (sizeRefusal most s) refl
   where
-    go : (r : ℕ) → sizeRefusal s ≡ r → SizeView s
+    go : (r : ℕ) → sizeRefusal most s ≡ r → SizeView most s
     go zero e =
-        let f = command-none 0x50 2 s (sizeFault (at s 1)) e in
+        let f = command-none 0x50 2 s (sizeFault most (at s 1)) e in
         size (at s 1) (drop 2 s) (rw e) (two s (f .1 .0) ∙ ap (λ c. c ∷ at s 1 ∷ drop 2 s) (f .0)) (f .1 .1)
     go (suc r) e =
         refused (suc r) (rw e) (omega arith)
-        (rw e at (command-among 0x50 2 s (sizeFault (at s 1)) (when-among readerRefusals 4 _ tt)))
+        (rw e at (command-among 0x50 2 s (sizeFault most (at s 1)) (when-among readerRefusals 4 _ tt)))
 
-pub size-taken : (n : ℕ) (s : List ℕ) → sizeFault n ≡ 0 → sizeStep (0x50 ∷ n ∷ s) ≡ Step.Size n
+pub size-taken : (most n : ℕ) (s : List ℕ) → sizeFault most n ≡ 0 → sizeStep most (0x50 ∷ n ∷ s) ≡ Step.Size n
 unfolding sizeStep sizeRefusal
-size-taken n s e = rw (command-values 0x50 2 (0x50 ∷ n ∷ s) (sizeFault n) refl (omega arith) (omega arith) ∙ e)
+size-taken most n s e = rw (command-values 0x50 2 (0x50 ∷ n ∷ s) (sizeFault most n) refl (omega arith) (omega arith) ∙ e)
 
 -- ---- source and sink
 

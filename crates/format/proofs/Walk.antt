@@ -13,12 +13,13 @@ use lib.ListN.{length, drop, length-drop}
 use mir.Val.{hasKey}
 use types.Run.{OneOf, miss}
 use denote.Enum.Declared.{tagOf}
+use Rattle.node_set.specs.Width.{nodeWidth}
 use Rattle.network.specs.declared.Network.{Network}
 use Rattle.network.specs.Record.{among, _when_, _then_, sizeFault, terminalFault, bare, withEdge}
 use Rattle.network.proofs.Refusals.{refused-some}
 use Rattle.format.specs.declared.Decoded.{Decoded}
 use Rattle.format.specs.declared.Step.{Step}
-use Rattle.format.specs.Format.{readerRefusals, at, sizeStep, terminalsStep, edgeStep, edgeRefusal, told, accept, refuse, ifTaken, edges, walk, decodeOf}
+use Rattle.format.specs.Format.{readerRefusals, at, sizeStep, terminalsStep, edgeStep, edgeRefusal, told, accept, refuse, ifTaken, edges, walk, decodeUpTo, decodeOf}
 use Rattle.format.proofs.Step as step-type
 use Rattle.format.proofs.Steps.{SizeView, size, size-view, TerminalsView, terminals, terminals-view, EdgeView, edge, end, edge-view}
 
@@ -38,19 +39,19 @@ refusal-decides {t} {r} goOn e p = rw e (refused-some r (goOn []) (refuse r) (λ
 -- ---- the size, source and sink
 
 -- The answer to the first command: a size goes on, and any other stops the reader.
-module _ (s : List ℕ) {t : Step} (e : t ≡ sizeStep s) where
+module _ (s : List ℕ) {t : Step} (e : t ≡ sizeStep nodeWidth s) where
   pub size-stops : Tagged (1 ∷ 2 ∷ 3 ∷ 4 ∷ []) t → refuse (told t .number) ≡ decodeOf s
-  unfolding decodeOf
-  size-stops h = go (size-view s)
+  unfolding decodeUpTo
+  size-stops h = go (size-view nodeWidth s)
     where
-      go : SizeView s → refuse (told t .number) ≡ decodeOf s
+      go : SizeView nodeWidth s → refuse (told t .number) ≡ decodeOf s
       go (size n rest step p f) = absurd (other-tag (1 ∷ 2 ∷ 3 ∷ 4 ∷ []) t (Step.Size n) h tt (e ∙ step))
       go (SizeView.refused r step p b) = ap (λ x. refuse (told x .number)) (e ∙ step) ∙ sym (refusal-decides _ step p)
 
   -- The same of the second.
   module _ {n : ℕ} (taken : t ≡ Step.Size n) {u : Step} (f : u ≡ terminalsStep n (drop 2 s)) where
     size-goes : decodeOf s ≡ ifTaken u (λ v. walk (bare n (at v 0) (at v 1)) 0 (drop 5 s))
-    unfolding decodeOf ifTaken
+    unfolding decodeUpTo ifTaken
     size-goes = rw (sym e ∙ taken, f)
 
     pub terminals-goes : {a b : ℕ} → u ≡ Step.Terminals a b → decodeOf s ≡ walk (bare n a b) 0 (drop 5 s)
@@ -68,21 +69,21 @@ module _ (s : List ℕ) {t : Step} (e : t ≡ sizeStep s) where
 -- What the first two commands tell of the bytes: the values that they have, or the refusal.
 pub data HeaderView (s : List ℕ) : Type 0 where
   header : (n a b : ℕ) (rest : List ℕ) → decodeOf s ≡ walk (bare n a b) 0 rest → s ≡ 0x50 ∷ n ∷ 0x53 ∷ a ∷ b ∷ rest
-      → sizeFault n ≡ 0 → terminalFault n a b ≡ 0 → HeaderView s
+      → sizeFault nodeWidth n ≡ 0 → terminalFault n a b ≡ 0 → HeaderView s
   refused : (r : ℕ) → decodeOf s ≡ refuse r → 0 < r → T (among readerRefusals r) → HeaderView s
 
 pub header-view : (s : List ℕ) → HeaderView s
-unfolding decodeOf
-header-view s = go (size-view s)
+unfolding decodeUpTo
+header-view s = go (size-view nodeWidth s)
   where
-    on : (n : ℕ) (rest : List ℕ) → sizeStep s ≡ Step.Size n → s ≡ 0x50 ∷ n ∷ rest → sizeFault n ≡ 0 → TerminalsView n (drop 2 s) → HeaderView s
+    on : (n : ℕ) (rest : List ℕ) → sizeStep nodeWidth s ≡ Step.Size n → s ≡ 0x50 ∷ n ∷ rest → sizeFault nodeWidth n ≡ 0 → TerminalsView n (drop 2 s) → HeaderView s
     on n rest step p f (terminals a b rest′ step′ p′ g) =
         let bytes : s ≡ 0x50 ∷ n ∷ 0x53 ∷ a ∷ b ∷ rest′ = p ∙ ap (λ x. 0x50 ∷ n ∷ x) (sym (ap (drop 2) p) ∙ p′) in
         header n a b rest′ (terminals-goes s refl step refl step′ ∙ ap (λ x. walk (bare n a b) 0 (drop 5 x)) bytes) bytes f g
     on n rest step p f (TerminalsView.refused r step′ l b) =
         HeaderView.refused r (size-goes s refl step refl ∙ refusal-decides _ step′ l) l b
 
-    go : SizeView s → HeaderView s
+    go : SizeView nodeWidth s → HeaderView s
     go (size n rest step p f) = on n rest step p f (terminals-view n (drop 2 s))
     go (SizeView.refused r step l b) = HeaderView.refused r (refusal-decides _ step l) l b
 

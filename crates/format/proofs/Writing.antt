@@ -17,6 +17,7 @@ use borrow.Author.Tests.{lt-ltb, le-ltb, eq-eqb, ne-eqb, ltb-false}
 use Rattle.sequences.specs.Words.{range}
 use Rattle.bitset.specs.Members.{has, insert, size}
 use Rattle.bitset.proofs.Members.{has-insert, has-mod, same-members}
+use Rattle.node_set.specs.Width.{nodeWidth}
 use Rattle.network.specs.declared.Network.{Network}
 use Rattle.network.specs.Record.{rewired, Stored, Slot, slot, slots, slotFault, endFault, absentFault, faultOf, bare, withEdge, hasEdge, firstEnd, secondEnd, present}
 use Rattle.network.proofs.Refusals.{when-none, or-none}
@@ -187,7 +188,7 @@ pub encode-decode : (N : Network) → Stored N → faultOf N ≡ 0 → decodeOf 
 unfolding encodeOf rest
 encode-decode N stored z =
     let a = accepted N z in
-    terminals-goes (encodeOf N) refl (size-taken (N .nodes) _ (a .size)) refl (terminals-taken (N .nodes) (N .source) (N .sink) _ (a .terminals))
+    terminals-goes (encodeOf N) refl (size-taken nodeWidth (N .nodes) _ (a .size)) refl (terminals-taken (N .nodes) (N .source) (N .sink) _ (a .terminals))
     ∙ ap (λ x. edges (length (rest N 0 64)) x 0 (rest N 0 64)) (below-none N stored)
     ∙ read-from N stored (a .slot-none) 64 0 0 (length (rest N 0 64)) refl zero-le (le-refl _)
 

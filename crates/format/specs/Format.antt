@@ -6,12 +6,12 @@
 --   missing n s               the refusal 1: fewer than n bytes are left
 --   unfit c s                 the refusal 2: the first byte is not the command c
 --   numberFault next k        the refusals 7 and 8 of an edge's number
---   sizeRefusal s             the first refusal of the command 50, 0 if it has none
+--   sizeRefusal most s        the first refusal of the command 50, 0 if it has none, where so many points are the most
 --   terminalsRefusal n s      that of 53, where there are n nodes
 --   edgeRefusal n next s      that of 43, where `next` is the least number allowed
 --   endRefusal s              that of 45
 --   answer r t                the refusal r as an answer, or t if there is none
---   sizeStep s                the answer of the command 50: its values, or its refusal
+--   sizeStep most s           the answer of the command 50: its values, or its refusal
 --   terminalsStep n s         that of 53
 --   edgeStep n next s         that of 43, or of 45, by the command byte
 --   stepOf w s                the answer where w is awaited  [working]
@@ -25,7 +25,8 @@
 --   ifTaken t goOn            refused by the number of the answer t, or on with its values
 --   edges turns N next s      the edge commands and the end, read into N, at most so many commands
 --   walk N next s             the edge commands and the end, read into N
---   decodeOf s                the bytes s read: the refusal's number beside the record
+--   decodeUpTo most s         the bytes s read, where so many points are the most: the refusal's number beside the record
+--   decodeOf s                the same with the most that there may be
 --
 -- Writing:
 --   commandOf k s             the bytes of slot k where it holds s
@@ -42,6 +43,7 @@ use Prim.Native.Nat.{ℕ, zero, suc, _≤_}
 use lib.Dec.{ltb, eqb}
 use lib.ListN.{length, getD, take, drop}
 use Rattle.sequences.specs.Words.{onto}
+use Rattle.node_set.specs.Width.{nodeWidth}
 use Rattle.network.specs.declared.Network.{Network}
 use Rattle.network.specs.Record.{_when_, _then_, unlessRefused, sizeFault, terminalFault, endFault, faultOf, slots, Slot, slot, bare, noNetwork, withEdge}
 use Rattle.format.specs.declared.Decoded.{Decoded}
@@ -68,8 +70,8 @@ unfoldable pub numberFault : ℕ → ℕ → ℕ
 numberFault next k = 7 when ltb 63 k then 8 when ltb k next
 
 -- 50, point count
-unfoldable pub sizeRefusal : List ℕ → ℕ
-sizeRefusal s = missing 1 s then unfit 0x50 s then missing 2 s then sizeFault (at s 1)
+unfoldable pub sizeRefusal : ℕ → List ℕ → ℕ
+sizeRefusal most s = missing 1 s then unfit 0x50 s then missing 2 s then sizeFault most (at s 1)
 
 -- 53, server, room
 unfoldable pub terminalsRefusal : ℕ → List ℕ → ℕ
@@ -88,8 +90,8 @@ endRefusal s = 3 when ltb 1 (length s)
 abbrev pub answer : ℕ → Step → Step
 answer r t = unlessRefused r t (Step.Refused r)
 
-unfoldable pub sizeStep : List ℕ → Step
-sizeStep s = answer (sizeRefusal s) (Step.Size (at s 1))
+unfoldable pub sizeStep : ℕ → List ℕ → Step
+sizeStep most s = answer (sizeRefusal most s) (Step.Size (at s 1))
 
 unfoldable pub terminalsStep : ℕ → List ℕ → Step
 terminalsStep n s = answer (terminalsRefusal n s) (Step.Terminals (at s 1) (at s 2))
@@ -103,7 +105,7 @@ edgeStep n next s =
 
 -- The command that each place awaits, with what is known there: the number of nodes, and the least edge number allowed.
 abbrev pub stepOf : Awaited → List ℕ → Step
-stepOf Awaited.Size s = sizeStep s
+stepOf Awaited.Size s = sizeStep nodeWidth s
 stepOf (Awaited.Terminals n) s = terminalsStep n s
 stepOf (Awaited.Edge n next) s = edgeStep n next s
 
@@ -149,11 +151,14 @@ abbrev pub walk : Network → ℕ → List ℕ → Decoded
 walk N next s = edges (length s) N next s
 
 -- The commands in their order: 50 with one operand, 53 with two, then the rest.
-unfoldable pub decodeOf : List ℕ → Decoded
-decodeOf s =
-    ifTaken (sizeStep s) λ size.
+unfoldable pub decodeUpTo : ℕ → List ℕ → Decoded
+decodeUpTo most s =
+    ifTaken (sizeStep most s) λ size.
     ifTaken (terminalsStep (at size 0) (drop 2 s)) λ terminals.
     walk (bare (at size 0) (at terminals 0) (at terminals 1)) 0 (drop 5 s)
+
+abbrev pub decodeOf : List ℕ → Decoded
+decodeOf = decodeUpTo nodeWidth
 
 -- ---- writing
 

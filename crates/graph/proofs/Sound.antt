@@ -1,7 +1,7 @@
 -- Sound networks: what the record test says of the nodes and edges of an accepted record.
 -- Assumes nothing.
 --
---   Sound N          edges below 64 with ends below the node count, no loop, at most 32 nodes, and two terminals among them
+--   Sound N          edges below 64 with ends below the node count, no loop, no more nodes than there may be, and two terminals among them
 --                    [working: accepted-sound (graph/proofs/Sound)]
 use mathlib.Core.Path.{_≡_, sym, _∙_}
 use mathlib.Core.Logic.{inl, inr, _≢_}
@@ -10,6 +10,7 @@ use native.Mathlib.Omega.{arith}
 use denote.Floats.{is-true}
 use Rattle.bitset.specs.Members.{_∈_}
 use Rattle.bitset.proofs.Sets.{member-lt}
+use Rattle.node_set.specs.Width.{nodeWidth}
 use Rattle.network.specs.declared.Network.{Network}
 use Rattle.network.specs.Record.{hasEdge, firstEnd, secondEnd, slotFault, faultOf, Stored, present}
 use Rattle.network.proofs.Refusals.{size-none, pair-none}
@@ -17,10 +18,10 @@ use Rattle.network.proofs.Slots.{accepted}
 use Rattle.graph.specs.Reach.{Bounded}
 use Rattle.graph.specs.Paths.{Joins}
 
--- Edges below 64 with ends below the node count, no loop, at most 32 nodes, and two terminals among them.
+-- Edges below 64 with ends below the node count, no loop, no more nodes than there may be, and two terminals among them.
 pub record Sound (N : Network) : Type 0 where
   pub bounded : Bounded N
-  pub small : N .nodes ≤ 32
+  pub small : N .nodes ≤ nodeWidth
   pub source-lt : N .source < N .nodes
   pub sink-lt : N .sink < N .nodes
   pub differ : N .source ≢ N .sink
@@ -46,7 +47,7 @@ accepted-sound N S ok =
         edges = S .edges;
         ends = λ e u v j. elim (j .1) [ inl q ↦ rw (← q .1) (slot e (j .0) .1) | inr q ↦ rw (← q .0) (slot e (j .0) .0) ];
       };
-      small = size-none (N .nodes) (rules .size) .1;
+      small = size-none nodeWidth (N .nodes) (rules .size) .1;
       source-lt = terminals .0;
       sink-lt = terminals .1;
       differ = terminals .2;

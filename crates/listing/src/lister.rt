@@ -6,7 +6,9 @@ use enumeration::enumerate;
 use network::Network;
 use network::refusal::ROWS_DIFFER;
 use network::refusal::TOO_MANY_CUTS;
+use node_set::NODE_WIDTH;
 use node_set::NodeSet;
+use node_set::NodeWord;
 ghost use mathlib.Core.Path.{_≡_};
 ghost use mathlib.Core.Bool.{true};
 ghost use Prim.Native.Nat.{_+_, _-_, _^_, _≤_, _<_};
@@ -24,7 +26,7 @@ fn always_enough(nodes: u32, lent: usize) -> bool
     if nodes < 2 {
         return false;
     }
-    if 32 < nodes {
+    if NODE_WIDTH < nodes {
         return false;
     }
     let most = 1usize << (nodes - 2);
@@ -40,13 +42,13 @@ fn outnumber(network: Network, nodes: NodeSet, edges: EdgeSet, lent: usize) -> b
         return false;
     }
     let mut no_cuts = [0u64; 0];
-    let mut no_sides = [0u32; 0];
+    let mut no_sides: [NodeWord; 0] = [0; 0];
     let count = enumerate(network, nodes, edges, &mut no_cuts, &mut no_sides, lent);
     lent < count
 }
 
 // Lists all minimal cuts, rising, each beside its near side. The record's first fault, then 11, then 12; on refusal no row changes.
-pub fn list(network: Network, cuts: &mut [u64], sides: &mut [u32]) -> Listed
+pub fn list(network: Network, cuts: &mut [u64], sides: &mut [NodeWord]) -> Listed
     ensures { λ r. ⌜ (r ≡ listedBy network (now (cuts .entry)) (now (sides .entry)))
         × (now (cuts .exit) ≡ cutRowsAfter network (now (cuts .entry)) (now (sides .entry)))
         × (now (sides .exit) ≡ sideRowsAfter network (now (cuts .entry)) (now (sides .entry))) ⌝ }

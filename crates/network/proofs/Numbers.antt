@@ -6,8 +6,9 @@ use mathlib.Core.Path.{_≡_}
 use Prim.Native.Nat.{ℕ, zero, suc}
 use lib.Dec.{T, ltb}
 use Rattle.sequences.specs.Words.{range}
+use Rattle.node_set.specs.Width.{nodeWidth}
 use Rattle.network.specs.declared.Network.{Network}
-use Rattle.network.specs.Record.{_when_, _then_, among, sizeFault, terminalFault, endFault, absentFault, hasEdge, firstEnd, secondEnd, slotFault, slotsFault, recordRefusals, faultOf}
+use Rattle.network.specs.Record.{_when_, _then_, among, sizeFault, terminalFault, endFault, absentFault, hasEdge, firstEnd, secondEnd, slotFault, slotsFault, recordRefusals, faultUpTo, faultOf}
 use Rattle.network.proofs.Refusals.{then-among, when-among, pair-among}
 
 abbrev Kept : ℕ → Type 0
@@ -31,11 +32,11 @@ slots-among N (suc n) k =
 
 -- The fault of a record.
 pub fault-among : (N : Network) → Kept (faultOf N)
-unfolding among faultOf sizeFault
+unfolding among faultUpTo sizeFault
 fault-among N =
     let terminals : ℕ = terminalFault (N .nodes) (N .source) (N .sink) in
-    then-among recordRefusals (sizeFault (N .nodes)) (terminals then slotsFault N 0 64)
-    (when-among recordRefusals 4 (ltb (N .nodes) 2 || ltb 32 (N .nodes)) tt)
+    then-among recordRefusals (sizeFault nodeWidth (N .nodes)) (terminals then slotsFault N 0 64)
+    (when-among recordRefusals 4 (ltb (N .nodes) 2 || ltb nodeWidth (N .nodes)) tt)
     (then-among recordRefusals terminals (slotsFault N 0 64) (pair-among recordRefusals 5 6 (N .nodes) (N .source) (N .sink) tt tt) (slots-among N 64 0))
 
 -- So a number that is not among them is no record's fault.

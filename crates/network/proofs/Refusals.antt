@@ -82,12 +82,12 @@ pair-among l x y n a b p q =
 
 -- ---- what the rules say of the values that keep them
 
--- A size without a fault is 2 to 32.
-pub size-none : (n : ℕ) → sizeFault n ≡ 0 → (2 ≤ n) × (n ≤ 32)
+-- A size without a fault is 2 to the most.
+pub size-none : (most n : ℕ) → sizeFault most n ≡ 0 → (2 ≤ n) × (n ≤ most)
 unfolding sizeFault
-size-none n e =
-    let q = or-none (ltb n 2) (ltb 32 n) (when-none 4 (ltb n 2 || ltb 32 n) (omega arith) e) in
-    (ltb-false n 2 (q .0), ltb-false 32 n (q .1))
+size-none most n e =
+    let q = or-none (ltb n 2) (ltb most n) (when-none 4 (ltb n 2 || ltb most n) (omega arith) e) in
+    (ltb-false n 2 (q .0), ltb-false most n (q .1))
 
 -- Two nodes without a fault are below the node count, and differ.
 pub pair-none : (x y n a b : ℕ) → 0 < x → 0 < y → pairFault x y n a b ≡ 0 → (a < n) × (b < n) × (a ≡ b → ⊥)

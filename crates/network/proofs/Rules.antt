@@ -10,6 +10,7 @@ use borrow.Author.Tests.{ltb-false, le-ltb, lt-leb, ne-eqb}
 use lib.Dec.{T, ltb}
 use Rattle.bitset.specs.Members.{_∈_}
 use Rattle.bitset.proofs.Sets.{∈-dec}
+use Rattle.node_set.specs.Width.{nodeWidth}
 use Rattle.network.specs.declared.Network.{Network}
 use Rattle.network.specs.Record.{_when_, sizeFault, pairFault, endFault, absentFault, hasEdge, firstEnd, secondEnd, slotFault, faultOf, present, Stored}
 use Rattle.network.specs.Rules.{Rules, FaultMeans}
@@ -22,9 +23,9 @@ use Rattle.network.proofs.Slots.{Accepted, accepted, accepted-none}
 none-or : {a b : Bool} → a ≡ false → b ≡ false → (a || b) ≡ false
 none-or p q i = p i || q i
 
-none-size : (n : ℕ) → 2 ≤ n → n ≤ 32 → sizeFault n ≡ 0
+none-size : (most n : ℕ) → 2 ≤ n → n ≤ most → sizeFault most n ≡ 0
 unfolding sizeFault
-none-size n h k = none-when 4 (none-or (le-ltb n 2 h) (le-ltb 32 n k))
+none-size most n h k = none-when 4 (none-or (le-ltb n 2 h) (le-ltb most n k))
 
 none-pair : (x y n a b : ℕ) → a < n → b < n → (a ≡ b → ⊥) → pairFault x y n a b ≡ 0
 unfolding pairFault
@@ -65,7 +66,7 @@ fault-rules N = (kept, λ r. accepted-none N (faultless r))
     kept : faultOf N ≡ 0 → Rules N
     kept e =
         let a : Accepted N = accepted N e in record {
-          size = size-none (N .nodes) (a .size);
+          size = size-none nodeWidth (N .nodes) (a .size);
           terminals = pair-none 5 6 (N .nodes) (N .source) (N .sink) (omega arith) (omega arith) (a .terminals);
           ends = λ k l m. pair-none 9 10 (N .nodes) (firstEnd N k) (secondEnd N k) (omega arith) (omega arith) (rw (slot-present N k m) at (a .slot-none k l));
           absent = λ k l n. absent-none (firstEnd N k) (secondEnd N k) (rw (slot-absent N k n) at (a .slot-none k l));
@@ -79,7 +80,7 @@ fault-rules N = (kept, λ r. accepted-none N (faultless r))
 
     faultless : Rules N → Accepted N
     faultless r = record {
-      size = none-size (N .nodes) (r .size .0) (r .size .1);
+      size = none-size nodeWidth (N .nodes) (r .size .0) (r .size .1);
       terminals = none-pair 5 6 (N .nodes) (N .source) (N .sink) (r .terminals .0) (r .terminals .1) (r .terminals .2);
       slot-none = λ k l. slot-none r k l (∈-dec k (present N));
     }

@@ -14,8 +14,9 @@ use lib.Seq.{getD-set-same, getD-set-other}
 use borrow.Author.Tests.{eq-eqb, ne-eqb}
 use Rattle.sequences.specs.Words.{range}
 use Rattle.bitset.proofs.Members.{has-insert, insert-lt}
+use Rattle.node_set.specs.Width.{nodeWidth}
 use Rattle.network.specs.declared.Network.{Network}
-use Rattle.network.specs.Record.{_then_, Stored, Slot, slot, slotFaultOf, slotFault, slotsFault, sizeFault, terminalFault, faultOf, hasEdge, firstEnd, secondEnd, withEdge, present}
+use Rattle.network.specs.Record.{_then_, Stored, Slot, slot, slotFaultOf, slotFault, slotsFault, sizeFault, terminalFault, faultUpTo, faultOf, hasEdge, firstEnd, secondEnd, withEdge, present}
 use Rattle.network.proofs.Refusals.{then-none, none-then}
 
 abbrev pub empty : Slot
@@ -74,19 +75,19 @@ none-row f k (suc n) z = none-then _ (z k (omega arith) (omega arith)) ∙ none-
 
 -- A record is accepted exactly if its size, its terminals and each slot have no fault.
 pub record Accepted (N : Network) : Type 0 where
-  pub size : sizeFault (N .nodes) ≡ 0
+  pub size : sizeFault nodeWidth (N .nodes) ≡ 0
   pub terminals : terminalFault (N .nodes) (N .source) (N .sink) ≡ 0
   pub slot-none : (k : ℕ) → k < 64 → slotFault N k ≡ 0
 
 pub accepted : (N : Network) → faultOf N ≡ 0 → Accepted N
-unfolding faultOf slotsFault
+unfolding faultUpTo slotsFault
 accepted N e =
-    let a = then-none (sizeFault (N .nodes)) _ e in
+    let a = then-none (sizeFault nodeWidth (N .nodes)) _ e in
     let b = then-none (terminalFault (N .nodes) (N .source) (N .sink)) _ (a .1) in
     record { size = a .0; terminals = b .0; slot-none = λ k l. row-none (slotFault N) 0 64 (b .1) k zero-le (omega arith) }
 
 pub accepted-none : (N : Network) → Accepted N → faultOf N ≡ 0
-unfolding faultOf slotsFault
+unfolding faultUpTo slotsFault
 accepted-none N a =
     none-then _ (a .size) ∙ none-then _ (a .terminals) ∙ none-row (slotFault N) 0 64 (λ j h l. a .slot-none j (omega arith))
 

@@ -7,7 +7,7 @@
 --   unlessRefused r a b      a, or b where r is a refusal: what a call gives, and what lent memory holds after it
 --
 -- The rules of the paper's table "Who causes a refusal":
---   sizeFault n      that of the point count (4)
+--   sizeFault most n     that of the point count (4), where so many points are the most
 --   pairFault outside same n a b     that of two points below the point count n, else `outside`, that differ, else `same`
 --   terminalFault n a b      that of server and room (5, 6)
 --   endFault n a b   that of a cable's two ends (9, 10)
@@ -25,7 +25,8 @@
 --   slotFault N k    the fault of slot k
 --   slotsFault N k n the first fault of the n slots from k on
 --   recordRefusals   the numbers that the record test can give  [working]
---   faultOf N        the record's first fault, 0 if it has none; a record is accepted if it is 0
+--   faultUpTo most N the record's first fault, 0 if it has none, where so many points are the most
+--   faultOf N        the same with the most that there may be; a record is accepted if it is 0
 --
 -- Records:
 --   assembled nodes source sink edges first second     a network from its fields
@@ -42,6 +43,7 @@ use lib.Dec.{leb, ltb, eqb}
 use lib.ListN.{length, getD, set, replicate}
 use Rattle.sequences.specs.Words.{range}
 use Rattle.bitset.specs.Members.{has, insert}
+use Rattle.node_set.specs.Width.{nodeWidth}
 use Rattle.network.specs.declared.Network.{Network}
 
 infix 30 _when_
@@ -65,9 +67,9 @@ unlessRefused (suc r) a b = b
 
 -- ---- the rules
 
--- 4: point count not 2 to 32
-unfoldable pub sizeFault : ℕ → ℕ
-sizeFault n = 4 when (ltb n 2 || ltb 32 n)
+-- 4: point count not 2 to the most
+unfoldable pub sizeFault : ℕ → ℕ → ℕ
+sizeFault most n = 4 when (ltb n 2 || ltb most n)
 
 -- Two points that must be below the point count, else the first refusal, and differ, else the second.
 unfoldable pub pairFault : ℕ → ℕ → ℕ → ℕ → ℕ → ℕ
@@ -128,8 +130,11 @@ abbrev pub recordRefusals : List ℕ
 recordRefusals = 4 ∷ 5 ∷ 6 ∷ 9 ∷ 10 ∷ 13 ∷ []
 
 -- The record test: 4, 5, 6, then slot by slot.
-unfoldable pub faultOf : Network → ℕ
-faultOf N = sizeFault (N .nodes) then terminalFault (N .nodes) (N .source) (N .sink) then slotsFault N 0 64
+unfoldable pub faultUpTo : ℕ → Network → ℕ
+faultUpTo most N = sizeFault most (N .nodes) then terminalFault (N .nodes) (N .source) (N .sink) then slotsFault N 0 64
+
+abbrev pub faultOf : Network → ℕ
+faultOf = faultUpTo nodeWidth
 
 -- ---- records
 

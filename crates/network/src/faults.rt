@@ -6,18 +6,20 @@ use crate::refusal::END_OUTSIDE;
 use crate::refusal::SAME_ENDS;
 use crate::refusal::SAME_TERMINALS;
 use crate::refusal::TERMINAL_OUTSIDE;
+use node_set::NODE_WIDTH;
 ghost use mathlib.Core.Path.{_≡_};
 ghost use Prim.Native.Nat.{_<_};
+ghost use Rattle.node_set.specs.Width.{nodeWidth};
 ghost use Rattle.network.specs.Record.{sizeFault, pairFault, terminalFault, endFault, absentFault, slotFaultOf, slotsFault, faultOf};
 ghost use Rattle.network.specs.Rules.{FaultMeans};
 
 pub fn size_fault(nodes: u8) -> u8
-    ensures { λ r. ⌜ r ≡ sizeFault nodes ⌝ }
+    ensures { λ r. ⌜ r ≡ sizeFault nodeWidth nodes ⌝ }
 {
     if nodes < 2 {
         return BAD_NODE_COUNT;
     }
-    if 32 < nodes {
+    if NODE_WIDTH < nodes as u32 {
         return BAD_NODE_COUNT;
     }
     0

@@ -1,11 +1,17 @@
-// A set of nodes (points): numbers below 32.
+// A set of nodes (points): numbers below the width.
 ghost use mathlib.Core.Path.{_≡_};
 ghost use mathlib.Core.Bool.{false, not, _&&_, _||_};
 ghost use Prim.Native.Nat.{ℕ};
 ghost use lib.Dec.{eqb, ltb};
 ghost use Rattle.bitset.specs.Members.{has, size, Lowest};
+ghost use Rattle.node_set.specs.Width.{nodeWidth};
 
-pub struct NodeSet(pub u32);
+// So many nodes there can be (specs/Width.antt), and the word that has a bit for each.
+pub const NODE_WIDTH: u32 = 32;
+
+pub type NodeWord = u32;
+
+pub struct NodeSet(pub NodeWord);
 
 impl NodeSet {
     // No members.
@@ -17,19 +23,26 @@ impl NodeSet {
 
     // The member k alone; no members if k is past the width.
     pub fn single(k: u32) -> Self
-        ensures { λ r. ⌜ ((j : ℕ) → has (r .0) j ≡ eqb j k && ltb k 32) ⌝ }
+        ensures { λ r. ⌜ ((j : ℕ) → has (r .0) j ≡ eqb j k && ltb k nodeWidth) ⌝ }
     {
-        if k < 32 { NodeSet(1 << k) } else { NodeSet(0) }
+        if k < NODE_WIDTH {
+            let bit = 1 << k;
+            NodeSet(bit)
+        } else {
+            NodeSet(0)
+        }
     }
 
-    // Every member below n; all 32 if n is past the width.
+    // Every member below n; all if n is past the width.
     pub fn below(n: u32) -> Self
-        ensures { λ r. ⌜ ((k : ℕ) → has (r .0) k ≡ ltb k n && ltb k 32) ⌝ }
+        ensures { λ r. ⌜ ((k : ℕ) → has (r .0) k ≡ ltb k n && ltb k nodeWidth) ⌝ }
     {
-        if n < 32 {
-            NodeSet((1 << n) - 1)
+        if n < NODE_WIDTH {
+            let bit = 1 << n;
+            let lower = bit - 1;
+            NodeSet(lower)
         } else {
-            NodeSet(u32::MAX)
+            NodeSet(!0)
         }
     }
 
@@ -37,7 +50,7 @@ impl NodeSet {
     pub fn contains(self, k: u32) -> bool
         ensures { λ r. ⌜ r ≡ has (self .0) k ⌝ }
     {
-        if k < 32 {
+        if k < NODE_WIDTH {
             (self.0 >> k) & 1 == 1
         } else {
             false
@@ -46,10 +59,11 @@ impl NodeSet {
 
     // The set with k; as it is if k is past the width.
     pub fn with(self, k: u32) -> Self
-        ensures { λ r. ⌜ ((j : ℕ) → has (r .0) j ≡ has (self .0) j || (eqb j k && ltb k 32)) ⌝ }
+        ensures { λ r. ⌜ ((j : ℕ) → has (r .0) j ≡ has (self .0) j || (eqb j k && ltb k nodeWidth)) ⌝ }
     {
-        if k < 32 {
-            NodeSet(self.0 | (1 << k))
+        if k < NODE_WIDTH {
+            let bit = 1 << k;
+            NodeSet(self.0 | bit)
         } else {
             self
         }
@@ -59,8 +73,9 @@ impl NodeSet {
     pub fn without(self, k: u32) -> Self
         ensures { λ r. ⌜ ((j : ℕ) → has (r .0) j ≡ has (self .0) j && not (eqb j k)) ⌝ }
     {
-        if k < 32 {
-            NodeSet(self.0 & !(1 << k))
+        if k < NODE_WIDTH {
+            let bit = 1 << k;
+            NodeSet(self.0 & !bit)
         } else {
             self
         }
@@ -94,23 +109,30 @@ impl NodeSet {
         self.0 == other.0
     }
 
+    // The set as a number of 64 bits: member k weighs 2^k.
+    pub fn bits(self) -> u64
+        ensures { λ r. ⌜ r ≡ self .0 ⌝ }
+    {
+        self.0 as u64
+    }
+
     // How many members there are.
     pub fn size(self) -> u32
-        ensures { λ r. ⌜ r ≡ size 32 (self .0) ⌝ }
+        ensures { λ r. ⌜ r ≡ size nodeWidth (self .0) ⌝ }
     {
         u32::count_ones(self.0)
     }
 
-    // The lowest member; the width, 32, if there is none.
+    // The lowest member; the width if there is none.
     pub fn lowest(self) -> u32
-        ensures { λ r. ⌜ Lowest 32 (self .0) r ⌝ }
+        ensures { λ r. ⌜ Lowest nodeWidth (self .0) r ⌝ }
     {
         u32::trailing_zeros(self.0)
     }
 
     // The set without its lowest member.
     pub fn without_lowest(self) -> Self
-        ensures { λ r. ⌜ ((j : ℕ) → Lowest 32 (self .0) j → (k : ℕ) → has (r .0) k ≡ has (self .0) k && not (eqb k j)) ⌝ }
+        ensures { λ r. ⌜ ((j : ℕ) → Lowest nodeWidth (self .0) j → (k : ℕ) → has (r .0) k ≡ has (self .0) k && not (eqb k j)) ⌝ }
     {
         if self.0 == 0 {
             self

@@ -10,6 +10,7 @@ use lib.Dec.{eqb}
 use lib.ListN.{length, getD, drop, length-drop, List·getD-eq-default}
 use lib.Seq.{getD-drop}
 use borrow.Author.Tests.{lt-ltb, le-ltb, eq-eqb, ne-eqb}
+use Rattle.node_set.specs.Width.{nodeWidth}
 use Rattle.network.specs.Record.{_then_, sizeFault, terminalFault, endFault}
 use Rattle.network.proofs.Refusals.{none-then, some-then, some-when, none-when, refused-some}
 use Rattle.format.specs.declared.Step.{Step}
@@ -54,23 +55,23 @@ refused r t d = sym (refused-some r t (Step.Refused r) d)
 -- ---- the commands, each way
 
 module _ (l : List ℕ) (o : ℕ) where
-  pub size-nothing : length l ≤ o → Step.Refused 1 ≡ sizeStep (drop o l)
+  pub size-nothing : length l ≤ o → Step.Refused 1 ≡ sizeStep nodeWidth (drop o l)
   unfolding sizeStep sizeRefusal
-  size-nothing h = rw (nothing-left 0x50 2 l o (sizeFault (at (drop o l) 1)) h)
+  size-nothing h = rw (nothing-left 0x50 2 l o (sizeFault nodeWidth (at (drop o l) 1)) h)
 
-  pub size-another : o < length l → (getD l o 0 ≡ 0x50 → ⊥) → Step.Refused 2 ≡ sizeStep (drop o l)
+  pub size-another : o < length l → (getD l o 0 ≡ 0x50 → ⊥) → Step.Refused 2 ≡ sizeStep nodeWidth (drop o l)
   unfolding sizeStep sizeRefusal
-  size-another h d = rw (another-command 0x50 2 l o (sizeFault (at (drop o l) 1)) h d)
+  size-another h d = rw (another-command 0x50 2 l o (sizeFault nodeWidth (at (drop o l) 1)) h d)
 
-  pub size-missing : o < length l → getD l o 0 ≡ 0x50 → length l - o < 2 → Step.Refused 1 ≡ sizeStep (drop o l)
+  pub size-missing : o < length l → getD l o 0 ≡ 0x50 → length l - o < 2 → Step.Refused 1 ≡ sizeStep nodeWidth (drop o l)
   unfolding sizeStep sizeRefusal
-  size-missing h f m = rw (operands-missing 0x50 2 l o (sizeFault (at (drop o l) 1)) h f m)
+  size-missing h f m = rw (operands-missing 0x50 2 l o (sizeFault nodeWidth (at (drop o l) 1)) h f m)
 
-  pub size-values : (r : ℕ) → o < length l → getD l o 0 ≡ 0x50 → 2 ≤ length l - o → r ≡ sizeFault (getD l (o + 1) 0)
-      → answer r (Step.Size (getD l (o + 1) 0)) ≡ sizeStep (drop o l)
+  pub size-values : (r : ℕ) → o < length l → getD l o 0 ≡ 0x50 → 2 ≤ length l - o → r ≡ sizeFault nodeWidth (getD l (o + 1) 0)
+      → answer r (Step.Size (getD l (o + 1) 0)) ≡ sizeStep nodeWidth (drop o l)
   unfolding sizeStep sizeRefusal
   size-values r h f m e =
-      rw (whole-command 0x50 2 l o (sizeFault (at (drop o l) 1)) h f (omega arith) m)
+      rw (whole-command 0x50 2 l o (sizeFault nodeWidth (at (drop o l) 1)) h f (omega arith) m)
       (rw (getD-drop o l 1 0) (ap (λ x. answer x (Step.Size (getD l (o + 1) 0))) e))
 
   module _ (n : ℕ) where

@@ -16,6 +16,7 @@ use network::terminal_fault;
 ghost use mathlib.Core.Path.{_≡_};
 ghost use lib.ListN.{drop};
 ghost use Rattle.network.specs.Record.{_then_, endFault};
+ghost use Rattle.node_set.specs.Width.{nodeWidth};
 ghost use Rattle.format.specs.Format.{numberFault, sizeStep, terminalsStep, edgeStep, stepOf};
 
 // The fault of an edge number that must be below 64 and not below `next`.
@@ -44,7 +45,7 @@ fn edge_fault(nodes: u8, next: u8, edge: u8, first: u8, second: u8) -> u8
 
 // 50, point count.
 fn size_at(plan: &[u8], at: usize) -> Step
-    ensures { λ r. ⌜ r ≡ sizeStep (drop at (now (plan .entry))) ⌝ }
+    ensures { λ r. ⌜ r ≡ sizeStep nodeWidth (drop at (now (plan .entry))) ⌝ }
 {
     if plan.len() <= at {
         return Step::Refused(TRUNCATED);

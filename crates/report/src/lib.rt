@@ -1,4 +1,5 @@
 // What the list program prints, made in one page of memory. The contract says what that is, byte for byte (specs/Report.antt).
+use node_set::NodeWord;
 use text::MAX_ROWS;
 use text::MAX_TEXT;
 ghost use mathlib.Core.Path.{_≡_};
@@ -29,7 +30,7 @@ pub fn report(plan: &[u8; DECIDING], read: usize, page: &mut [u8; MAX_TEXT]) -> 
         return text::put_refusal(page, decoded.refusal);
     }
     let mut cuts = [0u64; MAX_ROWS];
-    let mut sides = [0u32; MAX_ROWS];
+    let mut sides: [NodeWord; MAX_ROWS] = [0; MAX_ROWS];
     let listed = listing::list(decoded.network, &mut cuts, &mut sides);
     if listed.refusal != 0 {
         return text::put_refusal(page, listed.refusal);

@@ -9,8 +9,9 @@ use native.Mathlib.Omega.{arith}
 use lib.Dec.{ltb}
 use lib.ListN.{length, length-append}
 use Rattle.bitset.specs.Members.{has, membersFrom, members}
+use Rattle.node_set.specs.Width.{nodeWidth}
 use Rattle.text.specs.Ascii.{bytes}
-use Rattle.text.specs.Text.{digits, decimal, spaced, numbers, lineOf, wordLine, rowLines, listText, maxLine, maxRows, maxText}
+use Rattle.text.specs.Text.{digits, decimal, spaced, numbers, lineOf, wordLine, rowLines, listText, maxNumbers, maxLine, maxRows, maxText}
 use Rattle.text.proofs.Decimal.{length-decimal}
 use Rattle.text.proofs.NumberTexts.{spaced-nil, length-spaced, length-numbers, numbers-nil}
 use Rattle.text.proofs.Lines.{length-line, length-word}
@@ -38,11 +39,11 @@ numbers-bound : (l : List ℕ) (n : ℕ) → 1 ≤ n → length (spaced l) ≤ n
 numbers-bound [] n h m = rw (numbers-nil {l = []} refl) h
 numbers-bound (k ∷ l) n h m = omega (arith, length-numbers {l = k ∷ l} refl, length-spaced {l = k ∷ l} refl)
 
--- All edges take 181 bytes and all nodes 85.
+-- All edges and all nodes make the longest line.
 pub line-bound : (c s : ℕ) → length (lineOf c s) ≤ maxLine
 unfolding room decimal digits
 line-bound c s =
-    omega (arith, length-line c s, numbers-bound (members 64 c) 181 (omega arith) (spaced-bound c 0 64), numbers-bound (members 32 s) 85 (omega arith) (spaced-bound s 0 32))
+    omega (arith, length-line c s, numbers-bound (members 64 c) (maxNumbers 64) (omega arith) (spaced-bound c 0 64), numbers-bound (members nodeWidth s) (maxNumbers nodeWidth) (omega arith) (spaced-bound s 0 nodeWidth))
 
 -- A line of a short word and a number of 64 bits is far shorter.
 pub word-bound : (t : List ℕ) (n : ℕ) → length t < 8 → n < 2 ^ 64 → length (wordLine t n) ≤ 29

@@ -4,6 +4,7 @@ use mathlib.Core.Path.{_≡_, refl}
 use Prim.Native.Nat.{_-_, _^_}
 use lib.ListN.{length}
 use Rattle.bitset.specs.Members.{has, membersFrom}
+use Rattle.node_set.specs.Width.{nodeWidth}
 use Rattle.text.specs.Ascii.{bytes}
 use Rattle.text.specs.Text.{digits, decimal, spaced, numbers, lineOf, wordLine, refusalLine, maxLine}
 
@@ -18,6 +19,6 @@ unfolding digits decimal wordLine
 refusal = refl
 
 -- The line of all edges and all nodes is as long as a line can be.
-pub longest : length (lineOf (2 ^ 64 - 1) (2 ^ 32 - 1)) ≡ maxLine
+pub longest : length (lineOf (2 ^ 64 - 1) (2 ^ nodeWidth - 1)) ≡ maxLine
 unfolding has membersFrom digits decimal spaced numbers lineOf
 longest = refl

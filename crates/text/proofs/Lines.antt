@@ -5,10 +5,11 @@ use mathlib.Core.List.{List}
 use Prim.Native.Nat.{ℕ, _+_}
 use lib.ListN.{length, length-append}
 use Rattle.bitset.specs.Members.{members}
+use Rattle.node_set.specs.Width.{nodeWidth}
 use Rattle.text.specs.Text.{decimal, numbers, lineOf, wordLine}
 
 -- A row's line has the two sets, three bytes between them and one at the end.
-pub length-line : (c s : ℕ) → length (lineOf c s) ≡ length (numbers (members 64 c)) + 3 + length (numbers (members 32 s)) + 1
+pub length-line : (c s : ℕ) → length (lineOf c s) ≡ length (numbers (members 64 c)) + 3 + length (numbers (members nodeWidth s)) + 1
 unfolding lineOf
 length-line c s = simp length-append
 

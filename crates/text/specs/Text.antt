@@ -12,16 +12,18 @@
 --   refusalLine n    the line that says why there is no list: the word refused and n
 --   rowLines cuts sides     the lines of the rows, each cut beside its side, as far as there are both
 --   listText cuts sides     a whole list: the line of the count, then the lines of the rows
+--   maxNumbers w     how long the numbers below w can be, for 10 ≤ w ≤ 100  [working]
 --   maxLine          how long a row's line can be  [working]
 --   maxRows          how many rows are printed
 --   maxText          how long the text of so many rows can be  [working]
 use mathlib.Core.Bool.{true, false}
 use mathlib.Core.List.{List, [], _∷_, _++_}
-use Prim.Native.Nat.{ℕ, zero, suc, _+_, _*_, _/_, _%_}
+use Prim.Native.Nat.{ℕ, zero, suc, _+_, _-_, _*_, _/_, _%_}
 use Prim.Native.Char.{code}
 use lib.Dec.{ltb}
 use lib.ListN.{length}
 use Rattle.bitset.specs.Members.{members}
+use Rattle.node_set.specs.Width.{nodeWidth}
 use Rattle.text.specs.Ascii.{bytes}
 
 -- The byte of the digit d.
@@ -46,9 +48,9 @@ unfoldable pub numbers : List ℕ → List ℕ
 numbers [] = bytes "-"
 numbers (k ∷ l) = decimal k ++ spaced l
 
--- There are at most 64 cables and 32 points.
+-- There are at most 64 cables.
 unfoldable pub lineOf : ℕ → ℕ → List ℕ
-lineOf c s = numbers (members 64 c) ++ bytes " | " ++ numbers (members 32 s) ++ bytes "\n"
+lineOf c s = numbers (members 64 c) ++ bytes " | " ++ numbers (members nodeWidth s) ++ bytes "\n"
 
 -- A word, a space and a number.
 unfoldable pub wordLine : List ℕ → ℕ → List ℕ
@@ -68,13 +70,17 @@ rowLines (c ∷ cuts) (s ∷ sides) = lineOf c s ++ rowLines cuts sides
 unfoldable pub listText : List ℕ → List ℕ → List ℕ
 listText cuts sides = countLine (length cuts) ++ rowLines cuts sides
 
--- All cables take 181 bytes, all points 85, the bar with its spaces 3 and the end of the line 1.
+-- All of them with single spaces between them: ten of one digit, the others of two.
+abbrev pub maxNumbers : ℕ → ℕ
+maxNumbers w = 3 * w - 11
+
+-- All cables, all points, the bar with its spaces and the end of the line.
 abbrev pub maxLine : ℕ
-maxLine = 270
+maxLine = maxNumbers 64 + 3 + maxNumbers nodeWidth + 1
 
 abbrev pub maxRows : ℕ
 maxRows = 2048
 
--- So many lines of rows, and the line of the count, at most 29 bytes: 552989.
+-- So many lines of rows, and the line of the count, at most 29 bytes.
 abbrev pub maxText : ℕ
 maxText = maxRows * maxLine + 29

@@ -1,10 +1,13 @@
 // What is printed of a list, as bytes in lent memory. Every contract speaks of the bytes (specs/Text.antt, specs/Written.antt).
 use edge_set::EdgeSet;
+use node_set::NODE_WIDTH;
 use node_set::NodeSet;
+use node_set::NodeWord;
 ghost use mathlib.Core.Path.{_≡_};
 ghost use Prim.Native.Nat.{_+_, _≤_, min};
 ghost use lib.ListN.{length, take};
 ghost use Rattle.bitset.specs.Members.{members};
+ghost use Rattle.node_set.specs.Width.{nodeWidth};
 ghost use Rattle.text.specs.Text.{decimal, spaced, numbers, lineOf, wordLine, refusalLine, rowLines, listText, maxRows};
 ghost use Rattle.text.specs.Written.{Wrote, Printed};
 
@@ -12,7 +15,7 @@ ghost use Rattle.text.specs.Written.{Wrote, Printed};
 pub const MAX_ROWS: usize = 2048;
 
 // No list of so many rows is longer (proofs/Bound.antt): a page of so many bytes has room for each.
-pub const MAX_TEXT: usize = 552_989;
+pub const MAX_TEXT: usize = MAX_ROWS * (185 + 3 * NODE_WIDTH as usize - 11) + 29;
 
 // Writes the text from the offset `at` on.
 fn write_text(out: &mut [u8], at: usize, text: &[u8]) -> usize
@@ -87,10 +90,10 @@ fn write_edges(out: &mut [u8], at: usize, set: EdgeSet) -> usize
 
 // Writes the members, rising, from the offset `at` on; a hyphen if there are none.
 fn write_nodes(out: &mut [u8], at: usize, set: NodeSet) -> usize
-    requires { ⌜ at + length (numbers (members 32 (set .0))) ≤ length (now out) ⌝ }
-    ensures { λ r. ⌜ Wrote (now (out .entry)) at (numbers (members 32 (set .0))) (now (out .exit)) r ⌝ }
+    requires { ⌜ at + length (numbers (members nodeWidth (set .0))) ≤ length (now out) ⌝ }
+    ensures { λ r. ⌜ Wrote (now (out .entry)) at (numbers (members nodeWidth (set .0))) (now (out .exit)) r ⌝ }
 {
-    write_numbers(out, at, Numbers(set.0 as u64))
+    write_numbers(out, at, Numbers(set.bits()))
 }
 
 // Writes the line of a cut and its near side from the offset `at` on.
@@ -105,7 +108,7 @@ fn write_row(out: &mut [u8], at: usize, cut: EdgeSet, side: NodeSet) -> usize
 }
 
 // Writes the lines of the first `count` rows from the offset `at` on.
-fn write_rows(out: &mut [u8], at: usize, cuts: &[u64], sides: &[u32], count: usize) -> usize
+fn write_rows(out: &mut [u8], at: usize, cuts: &[u64], sides: &[NodeWord], count: usize) -> usize
     requires { ⌜ (count ≤ length (now cuts)) × (count ≤ length (now sides)) × (at + length (rowLines (take count (now cuts)) (take count (now sides))) ≤ length (now out)) ⌝ }
     ensures { λ r. ⌜ Wrote (now (out .entry)) at (rowLines (take count (now (cuts .entry))) (take count (now (sides .entry)))) (now (out .exit)) r ⌝ }
 {
@@ -140,7 +143,7 @@ fn rows_up_to(count: usize) -> usize
 pub fn put_list(
     page: &mut [u8; MAX_TEXT],
     cuts: &[u64; MAX_ROWS],
-    sides: &[u32; MAX_ROWS],
+    sides: &[NodeWord; MAX_ROWS],
     count: usize,
 ) -> usize
     ensures { λ r. ⌜ Printed (listText (take count (now (cuts .entry))) (take count (now (sides .entry)))) (now (page .entry)) (now (page .exit)) r ⌝ }

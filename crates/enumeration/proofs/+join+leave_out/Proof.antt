@@ -4,6 +4,7 @@ use mathlib.Core.Path.{_≡_, refl}
 use native.Mathlib.Omega.{arith}
 use borrow.Author.Needs.{needs}
 use Rattle.bitset.specs.Members.{size, _∈_}
+use Rattle.node_set.specs.Width.{nodeWidth}
 use Rattle.network.specs.declared.Network.{Network}
 use Rattle.branches.specs.Enumeration.{joined, leftOut, joinRows, leaveOutRows}
 use Rattle.enumeration.specs.Tables.{Tables}
@@ -30,10 +31,10 @@ use Rattle.enumeration.proofs.+join+leave_out.{statement}
 use Rattle.enumeration.proofs.+join+leave_out.Tie.{close}
 
 abbrev μ-join : Measures 4 join-kinds.ps ℕ
-μ-join κs a = size 32 (a .1 .1 .1 .0 .undecided .0)
+μ-join κs a = size nodeWidth (a .1 .1 .1 .0 .undecided .0)
 
 abbrev μ-leave-out : Measures 4 leave-out-kinds.ps ℕ
-μ-leave-out κs a = size 32 (a .1 .1 .1 .0 .undecided .0)
+μ-leave-out κs a = size nodeWidth (a .1 .1 .1 .0 .undecided .0)
 
 abbrev join-at : ℕ → In 4 join-kinds.ps
 join-at t = and 4 join-kinds.ps (is 4 join-kinds.ps μ-join t) join.Pre
@@ -156,7 +157,7 @@ join-returns-3 t c =
     )
 
 -- With v joined fewer nodes are undecided.
-joined-fewer : (t : ℕ) (c : join-lts.After-joined (join-claims t) (join-at t) join.Post) → size 32 (c .joined .result .undecided .0) < t
+joined-fewer : (t : ℕ) (c : join-lts.After-joined (join-claims t) (join-at t) join.Post) → size nodeWidth (c .joined .result .undecided .0) < t
 joined-fewer t c =
     let s = join-start t c in
     let all = s .args .b .undecided .0 in
@@ -267,7 +268,7 @@ leave-out-returns-3 t c =
 
 -- With v left out fewer nodes are undecided.
 left-out-fewer : (t : ℕ) (c : leave-out-lts.After-left-out (leave-out-claims t) (leave-out-at t) leave-out.Post)
-    → size 32 (c .left-out .result .undecided .0) < t
+    → size nodeWidth (c .left-out .result .undecided .0) < t
 left-out-fewer t c =
     let s = leave-out-start t c in
     let b = s .args .b in

@@ -4,6 +4,7 @@ use mathlib.Core.Path.{ap}
 use borrow.Author.Needs.{needs}
 use lib.ListN.{set}
 use Rattle.bitset.proofs.Results.{with-member}
+use Rattle.node_set.specs.Width.{nodeWidth}
 use Rattle.enumeration.proofs.add_adjacent.Statement.{statement}
 use Rattle.enumeration.proofs.add_adjacent.Tie as tie
 
@@ -25,7 +26,7 @@ element-write-adjacent c = search needs
 returns : tie.Need-returns
 returns c =
     let a = c .before .before .args in
-    ap (set (a .adjacent .now) (a .a)) (with-member 32 _ (a .b) _ (search needs) (c .with .ensures))
+    ap (set (a .adjacent .now) (a .a)) (with-member nodeWidth _ (a .b) _ (search needs) (c .with .ensures))
 
 pub add-adjacent-spec : {M : Type 1} → statement M
 add-adjacent-spec =

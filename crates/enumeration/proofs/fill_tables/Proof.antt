@@ -9,6 +9,7 @@ use lib.ListN.{length}
 use Rattle.bitset.specs.Members.{_⊆_, _∖_}
 use Rattle.bitset.proofs.Subsets.{⊆-refl}
 use Rattle.bitset.proofs.Scans.{Less, less-lowest, less-lt, none-left, gone-first, gone-next, gone-last}
+use Rattle.node_set.specs.Width.{nodeWidth}
 use Rattle.network.specs.Record.{firstEnd, secondEnd}
 use Rattle.network.specs.declared.Network.{Network}
 use Rattle.graph.specs.Cuts.{only}
@@ -23,15 +24,15 @@ record Turn (network : Network) (all : ℕ) (adjacent incident : List ℕ) (left
   -- The edges left are among all,
   within : left ⊆ all
   -- each table has a place for each node,
-  adjacent-rows : length adjacent ≡ 32
-  incident-rows : length incident ≡ 32
+  adjacent-rows : length adjacent ≡ nodeWidth
+  incident-rows : length incident ≡ nodeWidth
   -- and both are right for the edges that are gone through.
   adjacency : Adjacency (only network (all ∖ left)) adjacent
   incidence : Incidence (only network (all ∖ left)) incident
 
 -- The edge k is put into both tables and leaves those that are left.
 next : (N : Network) (all k : ℕ) {left left′ : ℕ} {adjacent near adjacent′ incident at incident′ : List ℕ}
-    → (firstEnd N k < 32) × (secondEnd N k < 32) → Less left k left′ → Turn N all adjacent incident left
+    → (firstEnd N k < nodeWidth) × (secondEnd N k < nodeWidth) → Less left k left′ → Turn N all adjacent incident left
     → near ≡ with-at adjacent (firstEnd N k) (secondEnd N k) → adjacent′ ≡ with-at near (secondEnd N k) (firstEnd N k)
     → at ≡ with-at incident (firstEnd N k) k → incident′ ≡ with-at at (secondEnd N k) k
     → Turn N all adjacent′ incident′ left′
@@ -80,8 +81,8 @@ loop-holds c =
       within = ⊆-refl (c .args .edges .0);
       adjacent-rows = ap length (c .pre .2);
       incident-rows = ap length (c .pre .3);
-      adjacency = rw none (near-first N (c .args .adjacent .now) (λ v. rw (c .pre .2) (zeros 32 v)));
-      incidence = rw none (at-first N (c .args .incident .now) (λ v. rw (c .pre .3) (zeros 32 v)));
+      adjacency = rw none (near-first N (c .args .adjacent .now) (λ v. rw (c .pre .2) (zeros nodeWidth v)));
+      incidence = rw none (at-first N (c .args .incident .now) (λ v. rw (c .pre .3) (zeros nodeWidth v)));
     }
 
 lowest-requires : tie.Need-lowest-requires Inv-loop μ-loop
@@ -109,7 +110,7 @@ element-copy-out-add-adjacent-2 c = search needs
 ends : (c : tie.Else1 Inv-loop μ-loop)
     → let N = c .before .before .before .args .t1 in
     let k = c .before .lowest .result in
-    (firstEnd N k < 32) × (secondEnd N k < 32)
+    (firstEnd N k < nodeWidth) × (secondEnd N k < nodeWidth)
 ends c =
     let s = c .before .before .before in
     let N = s .args .t1 in

@@ -6,6 +6,7 @@ use borrow.Author.Needs.{needs}
 use lib.Bits.{bitXor}
 use Rattle.bitset.specs.Members.{insert, _∖_}
 use Rattle.bitset.proofs.Results.{with-member, without-minus, union-or}
+use Rattle.node_set.specs.Width.{nodeWidth}
 use Rattle.graph.specs.Relevant.{reachIn}
 use Rattle.branches.specs.declared.Branch.{Branch}
 use Rattle.branches.specs.Enumeration.{joined}
@@ -22,11 +23,11 @@ without-requires c κs = search needs
 rest-without-requires : tie.Need-rest-without-requires
 rest-without-requires c κs = search needs
 
-mul-t14 : tie.Need-mul-t14
-mul-t14 c = search needs
+mul-nodes : tie.Need-mul-nodes
+mul-nodes c = search needs
 
-element-copy-out-t17 : tie.Need-element-copy-out-t17
-element-copy-out-t17 c = search needs
+element-copy-out-nodes : tie.Need-element-copy-out-nodes
+element-copy-out-nodes c = search needs
 
 union-requires : tie.Need-union-requires
 union-requires c κs = search needs
@@ -34,11 +35,11 @@ union-requires c κs = search needs
 with-requires-2 : tie.Need-with-requires-2
 with-requires-2 c κs = search needs
 
-mul-t14-2 : tie.Need-mul-t14-2
-mul-t14-2 c = search needs
+mul-edges : tie.Need-mul-edges
+mul-edges c = search needs
 
-element-copy-out-t21 : tie.Need-element-copy-out-t21
-element-copy-out-t21 c = search needs
+element-copy-out-edges : tie.Need-element-copy-out-edges
+element-copy-out-edges c = search needs
 
 returns : tie.Need-returns
 unfolding joined
@@ -50,13 +51,13 @@ returns c =
     let b : Branch = a .b in
     let v : ℕ = a .v in
     let h = w .before .pre in
-    let side = with-member 32 (b .side .0) v _ h (w .with .ensures) in
+    let side = with-member nodeWidth (b .side .0) v _ h (w .with .ensures) in
     let undecided = without-minus (b .undecided .0) v _ (r .before .without .ensures) in (
       undecided,
       λ M t e there whole.
           let rest = r .rest-without .ensures M (t .bounded) (t .nodes) there (λ off. rw e (whole off))
           ∙ ap (reachIn M (b .rest .0 ∖ 2 ^ v)) e in
-          let around = with-member 32 _ v _ h (c .before .before .with2 .ensures)
+          let around = with-member nodeWidth _ v _ h (c .before .before .with2 .ensures)
           ∙ ap (λ (x : ℕ). insert x v) (union-or (b .around .0) _ _ (u .union .ensures))
           ∙ beside-round M (t .bounded) (a .adjacent .now) (t .nodes) v h (b .around .0) in
           let cut = ap (bitXor (b .cut .0)) (at-edges M (t .bounded) (a .incident .now) (t .edges) v h) in
@@ -77,10 +78,10 @@ joined-spec =
     with-requires
     without-requires
     rest-without-requires
-    mul-t14
-    element-copy-out-t17
+    mul-nodes
+    element-copy-out-nodes
     union-requires
     with-requires-2
-    mul-t14-2
-    element-copy-out-t21
+    mul-edges
+    element-copy-out-edges
     returns)

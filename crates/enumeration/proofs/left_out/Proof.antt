@@ -1,6 +1,7 @@
 -- `left_out` meets its contract, field by field.
 -- Assumes nothing.
 use Rattle.bitset.proofs.Results.{with-member, without-minus}
+use Rattle.node_set.specs.Width.{nodeWidth}
 use Rattle.branches.specs.declared.Branch.{Branch}
 use Rattle.branches.specs.Enumeration.{leftOut}
 use borrow.Author.Needs.{needs}
@@ -19,7 +20,7 @@ returns c =
     let w = c .before .before .before in
     let s = w .before .before .before in
     let b : Branch = s .args .b in
-    let e = with-member 32 (b .out .0) (s .args .v) _ (s .pre) (w .before .with .ensures) in
+    let e = with-member nodeWidth (b .out .0) (s .args .v) _ (s .pre) (w .before .with .ensures) in
     let f = without-minus (b .undecided .0) (s .args .v) _ (w .without .ensures) in
     λ i. record {
       side = b .side;

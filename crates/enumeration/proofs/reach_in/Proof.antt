@@ -11,20 +11,21 @@ use Rattle.bitset.proofs.Subsets.{subset-le, ⊆-refl}
 use Rattle.bitset.proofs.Sets.{minus-⊆}
 use Rattle.bitset.proofs.Scans.{less-lowest, none-left}
 use Rattle.bitset.proofs.Results.{in-alone}
+use Rattle.node_set.specs.Width.{nodeWidth}
 use Rattle.enumeration.proofs.Spread.{Spread, Turn, turn-of, spread-first, spread-next, settled-more, spread-last}
 use Rattle.enumeration.proofs.reach_in.Statement.{statement}
 use Rattle.enumeration.proofs.reach_in.Tie as tie
 
 -- What holds at each turn: what is reached is a word, and the search has spread that far.
 record Reached (adjacent : List ℕ) (within start reached fresh : ℕ) : Type 0 where
-  word : reached < 2 ^ 32
+  word : reached < 2 ^ nodeWidth
   spread : Spread adjacent within start reached fresh
 
 abbrev Inv-loop : tie.InvT-loop
 Inv-loop adjacent within start reached₀ fresh₀ reached fresh = Reached adjacent (within .0) start (reached .0) (fresh .0)
 
 abbrev μ-loop : tie.MeasureT-loop
-μ-loop adjacent within start reached₀ fresh₀ reached fresh = 2 ^ 32 - (reached .0 ∖ fresh .0)
+μ-loop adjacent within start reached₀ fresh₀ reached fresh = 2 ^ nodeWidth - (reached .0 ∖ fresh .0)
 
 -- The lowest fresh node is found, seen from the end of its turn.
 abbrev found : tie.After-union2 Inv-loop μ-loop → tie.After-lowest Inv-loop μ-loop
@@ -36,7 +37,7 @@ single-requires c κs = search needs
 loop-holds : tie.Need-loop-holds Inv-loop μ-loop
 loop-holds c =
     let a = c .before .args in
-    let alone = in-alone (a .start) (c .single .result .0) (c .single .ensures) in
+    let alone = in-alone nodeWidth (a .start) (c .single .result .0) (c .single .ensures) in
     record { word = search needs; spread = spread-first (a .adjacent .now) (a .within .0) (a .start) (c .single .result .0) alone }
 
 lowest-requires : tie.Need-lowest-requires Inv-loop μ-loop
@@ -77,7 +78,7 @@ turn c =
     let low = found c .lowest .ensures in
     let new = c .before .before .before in
     let beside = new .before .intersection in
-    let less = less-lowest 32 _ _ _ low (search needs) (c .before .without-lowest .ensures _ low) in
+    let less = less-lowest nodeWidth _ _ _ low (search needs) (c .before .without-lowest .ensures _ low) in
     turn-of _ _ _ _ _ (beside .result .0) _ (c .before .without-lowest .result .0) _ _ less
     (beside .ensures) (new .difference .ensures) (c .before .before .union .ensures) (c .union2 .ensures)
 
@@ -88,7 +89,7 @@ loop-less c =
     let fresh = c .union2 .result .0 in
     let more = settled-more _ _ _ (l .reached .0) (l .fresh .0) _ _ reached fresh (l .inv .spread) (turn c) in
     let within = subset-le (reached ∖ fresh) reached (minus-⊆ _ _) in
-    let small : reached < 2 ^ 32 = search needs in
+    let small : reached < 2 ^ nodeWidth = search needs in
     omega (arith, more, within, small)
 
 loop-again : tie.Need-loop-again Inv-loop μ-loop
@@ -103,8 +104,8 @@ returns c M B table there =
     let reached = l .reached .0 in
     let fresh = l .fresh .0 in
     let inv = l .inv in
-    let small : fresh < 2 ^ 32 = lt-of-le-of-lt (subset-le fresh reached (inv .spread .part)) (inv .word) in
-    let none = none-left 32 fresh fresh _ small (⊆-refl fresh) (c .before .lowest .ensures) (c .if1 .taken) in
+    let small : fresh < 2 ^ nodeWidth = lt-of-le-of-lt (subset-le fresh reached (inv .spread .part)) (inv .word) in
+    let none = none-left nodeWidth fresh fresh _ small (⊆-refl fresh) (c .before .lowest .ensures) (c .if1 .taken) in
     spread-last (a .adjacent .now) (a .within .0) (a .start) reached fresh (inv .spread) none (inv .word) (search needs) M B table there
 
 pub reach-in-spec : {M : Type 1} → statement M

@@ -3,6 +3,7 @@
 use native.Mathlib.Omega.{arith}
 use Rattle.bitset.proofs.Sets.{minus-⊆}
 use Rattle.bitset.proofs.Results.{single-power, difference-minus}
+use Rattle.node_set.specs.Width.{nodeWidth}
 use Rattle.network.specs.Record.{present}
 use Rattle.graph.specs.CutTests.{severed}
 use Rattle.graph.proofs.Sound.{Sound, accepted-sound}
@@ -42,7 +43,7 @@ returns c =
     let N = a .network in
     let S = sound start in
     let over = difference-minus (present N) (a .set .0) _ (rest .difference .ensures) in
-    let from = single-power 32 (N .source) _ (omega (arith, S .source-lt, S .small)) (one .single .ensures) in
+    let from = single-power nodeWidth (N .source) _ (omega (arith, S .source-lt, S .small)) (one .single .ensures) in
     let reached = c .before .before .reach .ensures (start .pre) (rw over (minus-⊆ (present N) (a .set .0))) in
     rw (c .contains .ensures, reached, over, from)
 

@@ -7,6 +7,7 @@ use native.Mathlib.Omega.{arith}
 use borrow.Author.Needs.{needs}
 use lib.Bits.{bitAnd}
 use Rattle.bitset.proofs.Results.{below-ones, intersection-and}
+use Rattle.node_set.specs.Width.{nodeWidth}
 use Rattle.network.specs.declared.Network.{Network}
 use Rattle.graph.specs.Relevant.{pastAll, relevantNodes}
 use Rattle.graph.proofs.Sound.{accepted-sound}
@@ -35,7 +36,7 @@ unfolding pastAll
 loop-holds c =
     let N = c .before .before .args .network in
     let S = accepted-sound N (search needs) (c .before .before .pre) in
-    record { within = omega arith; past = below-ones 32 (N .nodes) _ (S .small) (c .below .ensures) }
+    record { within = omega arith; past = below-ones nodeWidth (N .nodes) _ (S .small) (c .below .ensures) }
 
 past-requires : tie.Need-past-requires Inv-loop μ-loop
 past-requires c κs = search needs

@@ -1,5 +1,6 @@
 -- `spread::across` meets its contract: what does not fit after the first end is not kept after the second.
 -- Assumes nothing.
+use Rattle.node_set.specs.Width.{nodeWidth}
 use Rattle.connectivity.proofs.Fitting.{addIf-mod}
 use borrow.Author.Needs.{needs}
 use Rattle.connectivity.proofs.spread.across.Statement.{statement}
@@ -20,7 +21,7 @@ add-if-requires-2 c κs = search needs
 returns : tie.Need-returns
 returns c =
     let one = c .before .before in
-    rw (c .add-if2 .ensures, c .before .contains2 .ensures, one .add-if .ensures, one .before .contains .ensures) (addIf-mod 32 _ _ _)
+    rw (c .add-if2 .ensures, c .before .contains2 .ensures, one .add-if .ensures, one .before .contains .ensures) (addIf-mod nodeWidth _ _ _)
 
 pub across-spec : {M : Type 1} → statement M
 across-spec =

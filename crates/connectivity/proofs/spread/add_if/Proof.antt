@@ -3,6 +3,7 @@
 use mathlib.Core.Path.{sym}
 use native.Mathlib.Nat.{mod-eq-of-lt}
 use Rattle.bitset.proofs.Results.{with-insert}
+use Rattle.node_set.specs.Width.{nodeWidth}
 use Rattle.graph.specs.Reach.{addIf}
 use borrow.Author.Needs.{needs}
 use Rattle.connectivity.proofs.spread.add_if.Statement.{statement}
@@ -13,7 +14,7 @@ with-requires c κs = search needs
 
 returns : tie.Need-returns
 unfolding addIf
-returns c = rw (c .before .if1 .taken) (with-insert 32 _ _ _ (search needs) (c .with .ensures))
+returns c = rw (c .before .if1 .taken) (with-insert nodeWidth _ _ _ (search needs) (c .with .ensures))
 
 returns-2 : tie.Need-returns-2
 unfolding addIf

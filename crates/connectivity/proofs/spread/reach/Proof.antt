@@ -6,6 +6,7 @@ use native.Mathlib.Omega.{arith}
 use borrow.Author.Needs.{needs}
 use borrow.Author.Tests.{eqb-true, eqb-false}
 use Rattle.bitset.specs.Members.{_⊆_}
+use Rattle.node_set.specs.Width.{nodeWidth}
 use Rattle.network.specs.declared.Network.{Network}
 use Rattle.network.specs.Record.{faultOf, present}
 use Rattle.graph.specs.Cuts.{only}
@@ -17,7 +18,7 @@ use Rattle.connectivity.proofs.spread.reach.Tie as tie
 
 -- What holds at each turn.
 record Turn (network : Network) (edges start spread : ℕ) : Type 0 where
-  word : spread < 2 ^ 32
+  word : spread < 2 ^ nodeWidth
   -- The start has been reached,
   started : start ⊆ spread
   -- and of an accepted network reachable nodes alone.
@@ -27,7 +28,7 @@ abbrev Inv-loop : tie.InvT-loop
 Inv-loop network edges spread₀ spread = Turn network (edges .0) (spread₀ .0) (spread .0)
 
 abbrev μ-loop : tie.MeasureT-loop
-μ-loop network edges spread₀ spread = 2 ^ 32 - spread .0
+μ-loop network edges spread₀ spread = 2 ^ nodeWidth - spread .0
 
 -- An accepted network is sound.
 sound : (c : tie.Start Inv-loop μ-loop) → faultOf (c .args .network) ≡ 0 → Sound (c .args .network)

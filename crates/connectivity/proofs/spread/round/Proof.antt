@@ -3,6 +3,7 @@
 use Prim.Native.Nat.{ℕ, _^_, _<_}
 use borrow.Author.Needs.{needs}
 use Rattle.bitset.proofs.Scans.{Less, less-lowest, less-lt, none-left, Gathered, gathered-first, gathered-next, gathered-last}
+use Rattle.node_set.specs.Width.{nodeWidth}
 use Rattle.network.specs.declared.Network.{Network}
 use Rattle.graph.specs.Cuts.{only}
 use Rattle.graph.specs.Reach.{across}
@@ -12,7 +13,7 @@ use Rattle.connectivity.proofs.spread.round.Tie as tie
 
 -- What holds at each turn: the set is a word, and what the edges before have added is gathered in it.
 record Turn (reached : ℕ) (network : Network) (edges next left : ℕ) : Type 0 where
-  word : next < 2 ^ 32
+  word : next < 2 ^ nodeWidth
   gathered : Gathered (BesideFits (only network edges) reached) reached edges left next
 
 abbrev Inv-loop : tie.InvT-loop

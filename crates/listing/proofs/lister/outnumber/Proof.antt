@@ -6,6 +6,7 @@ use native.Mathlib.Nat.{le-trans}
 use borrow.Author.Tests.{le-ltb}
 use lib.ListN.{length}
 use Rattle.bitset.specs.Members.{size}
+use Rattle.node_set.specs.Width.{nodeWidth}
 use Rattle.network.specs.Record.{Stored}
 use Rattle.graph.proofs.Sound.{accepted-sound}
 use Rattle.branches.specs.Enumeration.{rows}
@@ -27,7 +28,7 @@ returns c =
     let a = start .args in
     let stored : Stored (a .network) = search needs in
     let sound = accepted-sound (a .network) stored (start .pre .0) in
-    let most : 2 ^ (size 32 (a .nodes .0) - 2) ≤ a .lent =
+    let most : 2 ^ (size nodeWidth (a .nodes .0) - 2) ≤ a .lent =
     rw (c .before .before .size .ensures) at (c .before .always-enough .ensures (c .if1 .taken)) in
     let bound = rw (← start .pre .1) at (rows-at-most (a .network) sound) in
     sym (le-ltb (a .lent) (length (rows (a .network))) (le-trans bound most))

@@ -2,7 +2,7 @@
 -- Assumes nothing.
 use mathlib.Core.Path.{sym, _∙_}
 use native.Mathlib.Omega.{arith}
-use Rattle.network.specs.Record.{faultOf, Stored}
+use Rattle.network.specs.Record.{faultUpTo, faultOf, Stored}
 use Rattle.network.proofs.Refusals.{none-then, some-then}
 use Rattle.network.proofs.Rules.{fault-means}
 use borrow.Author.Needs.{needs}
@@ -17,7 +17,7 @@ size-fault-requires : tie.Need-size-fault-requires
 size-fault-requires c κs = search needs
 
 returns : tie.Need-returns
-unfolding faultOf
+unfolding faultUpTo
 returns c =
     fault-means _ (stored (c .before .before))
     (c .before .size-fault .ensures ∙ sym (some-then _ _ (omega (arith, c .before .size-fault .ensures))))
@@ -26,7 +26,7 @@ terminal-fault-requires : tie.Need-terminal-fault-requires
 terminal-fault-requires c κs = search needs
 
 returns-2 : tie.Need-returns-2
-unfolding faultOf
+unfolding faultUpTo
 returns-2 c =
     let sized = c .before .before in
     let none = sym (sized .before .size-fault .ensures) ∙ sized .if1 .left in
@@ -37,7 +37,7 @@ slots-fault-requires : tie.Need-slots-fault-requires
 slots-fault-requires c κs = search needs
 
 returns-3 : tie.Need-returns-3
-unfolding faultOf
+unfolding faultUpTo
 returns-3 c =
     let sized = c .before .before .before in
     let none = sym (sized .before .size-fault .ensures) ∙ sized .if1 .left in

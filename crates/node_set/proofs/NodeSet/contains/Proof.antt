@@ -4,6 +4,7 @@ use borrow.Author.Needs.{needs}
 use mathlib.Core.Path.{sym}
 use Rattle.bitset.proofs.Members.{has-bounded}
 use Rattle.bitset.proofs.Words.{contains-test}
+use Rattle.node_set.specs.Width.{nodeWidth}
 use Rattle.node_set.proofs.NodeSet.contains.Statement.{statement}
 use Rattle.node_set.proofs.NodeSet.contains.Tie as tie
 
@@ -14,7 +15,7 @@ returns : tie.Need-returns
 returns c = contains-test _ _
 
 returns-2 : tie.Need-returns-2
-returns-2 c = sym (has-bounded 32 (search needs) _ (search needs))
+returns-2 c = sym (has-bounded nodeWidth (search needs) _ (search needs))
 
 pub contains-spec : {M : Type 1} → statement M
 contains-spec = tie.close (tie.spec shr-result returns returns-2)

@@ -2,17 +2,18 @@
 -- Assumes nothing.
 use borrow.Author.Needs.{needs}
 use Rattle.bitset.proofs.Words.{has-single, has-single-past}
+use Rattle.node_set.specs.Width.{nodeWidth}
 use Rattle.node_set.proofs.NodeSet.single.Statement.{statement}
 use Rattle.node_set.proofs.NodeSet.single.Tie as tie
 
-shl-t4 : tie.Need-shl-t4
-shl-t4 c = search needs
+shl-bit : tie.Need-shl-bit
+shl-bit c = search needs
 
 returns : tie.Need-returns
-returns c = has-single 32 _ (search needs)
+returns c = has-single nodeWidth _ (search needs)
 
 returns-2 : tie.Need-returns-2
-returns-2 c = has-single-past 32 _ (search needs)
+returns-2 c = has-single-past nodeWidth _ (search needs)
 
 pub single-spec : {M : Type 1} → statement M
-single-spec = tie.close (tie.spec shl-t4 returns returns-2)
+single-spec = tie.close (tie.spec shl-bit returns returns-2)
