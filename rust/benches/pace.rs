@@ -7,6 +7,7 @@
 use std::hint::black_box;
 use std::time::{Duration, Instant};
 
+use cutlist_tests::answers::Nodes;
 use cutlist_tests::halls;
 use cutlist_tests::plans;
 use cutlist_tests::record::Record;
@@ -22,7 +23,7 @@ const CALLS: (usize, usize) = (5, 101);
 
 struct Lent {
     cuts: Vec<u64>,
-    sides: Vec<u32>,
+    sides: Vec<Nodes>,
 }
 
 impl Lent {

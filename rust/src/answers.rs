@@ -1,10 +1,13 @@
 //! What the calls on a plan record answer.
 
+/// A set of nodes (points): node k weighs 2^k.
+pub type Nodes = u32;
+
 /// The useful part of a plan.
 #[derive(Clone, Copy, Debug, Default, PartialEq, Eq)]
 pub struct Part {
     /// The useful points.
-    pub nodes: u32,
+    pub nodes: Nodes,
     /// The useful cables.
     pub edges: u64,
 }
@@ -13,7 +16,7 @@ pub struct Part {
 #[derive(Clone, Copy, Debug, PartialEq, Eq, PartialOrd, Ord)]
 pub struct Row {
     pub cut: u64,
-    pub side: u32,
+    pub side: Nodes,
 }
 
 /// What judging says of a set of cables.

@@ -2,14 +2,14 @@
 
 use std::iter;
 
-use crate::answers::{Part, Row, Verdict};
+use crate::answers::{Nodes, Part, Row, Verdict};
 use crate::record::Record;
 
 /// A way from server to room that meets no point twice.
 #[derive(Clone, Copy, Debug, PartialEq, Eq, PartialOrd, Ord)]
 pub struct Path {
     pub edges: u64,
-    pub nodes: u32,
+    pub nodes: Nodes,
 }
 
 /// Every way from server to room that meets no point twice.
@@ -140,8 +140,8 @@ pub fn transversals(family: &[u64]) -> Vec<u64> {
 }
 
 /// The near side of a minimal cut: a walk over useful cables outside the cut.
-pub fn source_side(record: &Record, part: Part, cut: u64) -> u32 {
-    let mut side = 0u32;
+pub fn source_side(record: &Record, part: Part, cut: u64) -> Nodes {
+    let mut side: Nodes = 0;
     let mut open = vec![record.source];
     while let Some(node) = open.pop() {
         if side >> node & 1 == 1 {

@@ -2,7 +2,7 @@
 
 use std::fmt::LowerHex;
 
-use crate::answers::{Part, Row, Verdict, Widths};
+use crate::answers::{Nodes, Part, Row, Verdict, Widths};
 use crate::record::Record;
 use crate::reference::{self, Refusal, LONGEST_PLAN};
 use crate::sys;
@@ -95,7 +95,7 @@ pub fn list(
     record: &Record,
     rows: Option<&[Row]>,
     cuts_before: &[u64],
-    sides_before: &[u32],
+    sides_before: &[Nodes],
 ) -> u8 {
     let fits = rows.filter(|rows| rows.len() <= cuts_before.len());
     let number = match reference::number(&reference::fault(record)) {

@@ -2,6 +2,7 @@
 
 use std::hint::black_box;
 
+use crate::answers::Nodes;
 use crate::rng::Rng;
 
 /// Guard bytes, or guard words, on each side of what is lent.
@@ -116,9 +117,9 @@ impl<T: Word> Rows<T> {
 }
 
 /// So many cut rows and side rows that hold anything.
-pub fn stale_rows(rng: &mut Rng, cuts: usize, sides: usize) -> (Vec<u64>, Vec<u32>) {
+pub fn stale_rows(rng: &mut Rng, cuts: usize, sides: usize) -> (Vec<u64>, Vec<Nodes>) {
     (
         (0..cuts).map(|_| rng.draw()).collect(),
-        (0..sides).map(|_| rng.draw() as u32).collect(),
+        (0..sides).map(|_| rng.draw() as Nodes).collect(),
     )
 }

@@ -1,11 +1,12 @@
 //! Random records, and damage to plans and records.
 
+use crate::answers::Nodes;
 use crate::halls;
-use crate::record::{Record, SLOTS};
+use crate::record::{Record, MOST_NODES, SLOTS};
 use crate::reference::{self, LONGEST_PLAN};
 use crate::rng::Rng;
 
-/// A random record without fault: 2 to 32 nodes, parallel edges, gaps in the edge numbers, from no
+/// A random record without fault: 2 nodes to the most, parallel edges, gaps in the edge numbers, from no
 /// edge to all 64.
 pub fn record(rng: &mut Rng) -> Record {
     let present = match rng.below(6) {
@@ -22,9 +23,9 @@ pub fn record(rng: &mut Rng) -> Record {
 /// A random record without fault that has exactly these edges.
 pub fn record_with(rng: &mut Rng, present: u64) -> Record {
     let nodes = if rng.once_in(3) {
-        rng.pick(&[2, 3, 4, 31, 32])
+        rng.pick(&[2, 3, 4, MOST_NODES - 1, MOST_NODES])
     } else {
-        2 + rng.below(31) as u8
+        2 + rng.below(usize::from(MOST_NODES) - 1) as u8
     };
     let (source, sink) = two_nodes(rng, nodes);
     let mut record = Record::bare(nodes, source, sink);
@@ -88,7 +89,7 @@ pub fn small(rng: &mut Rng, most: usize) -> Record {
 /// A random plan of many points: a tree, then cables between points not far apart, so that most of
 /// it is useful and the list stays short enough to check.
 pub fn large(rng: &mut Rng) -> Record {
-    let nodes = 8 + rng.below(25) as u8;
+    let nodes = 8 + rng.below(usize::from(MOST_NODES) - 7) as u8;
     let near = 1 + rng.below(6);
     let mut ends: Vec<(u8, u8)> = Vec::new();
     for node in 1..nodes {
@@ -125,9 +126,9 @@ pub fn renamed(rng: &mut Rng, record: &Record) -> Record {
 /// server nor room inside it, is put back the other way round. `None` if the draw finds no part.
 pub fn twisted(rng: &mut Rng, record: &Record) -> Option<Record> {
     let (one, other) = two_nodes(rng, record.nodes);
-    let fixed = 1u32 << one | 1 << other;
+    let fixed: Nodes = 1 << one | 1 << other;
     let start = rng.below(record.nodes.into()) as u8;
-    let mut inside = 1u32 << start;
+    let mut inside: Nodes = 1 << start;
     loop {
         let mut more = inside;
         for edge in record.edges() {
@@ -345,7 +346,7 @@ impl Damage {
 
 /// The commands of a plan with few values in them, so that many faults stand in one plan.
 pub fn of_few_values(rng: &mut Rng) -> Vec<u8> {
-    let nodes = rng.pick(&[1, 2, 3, 4, 32, 33]);
+    let nodes = rng.pick(&[1, 2, 3, 4, MOST_NODES, MOST_NODES + 1]);
     let mut plan = vec![0x50, nodes, 0x53, rng.below(4) as u8, rng.below(4) as u8];
     for _ in 0..rng.below(6) {
         let edge = rng.pick(&[0, 1, 2, 3, 4, 5, 6, 7, 62, 63, 64]);
@@ -402,7 +403,7 @@ pub fn faulty() -> Vec<(u8, Record)> {
         change(&mut record);
         found.push((number, record));
     };
-    for nodes in [0, 1, 33, 34, 64, 128, 255] {
+    for nodes in [0, 1, MOST_NODES + 1, MOST_NODES + 2, 128, 254, 255] {
         add(4, &|r| r.nodes = nodes);
         // 4 before all others.
         add(4, &|r| (r.nodes, r.source) = (nodes, 255));

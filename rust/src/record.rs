@@ -2,6 +2,9 @@
 
 use std::fmt;
 
+/// The most nodes (points).
+pub const MOST_NODES: u8 = 32;
+
 /// Slots for edges (cables).
 pub const SLOTS: usize = 64;
 

@@ -1,6 +1,6 @@
 //! The reader, the record test and the writer, straight from the paper.
 
-use crate::record::{Record, SLOTS};
+use crate::record::{Record, MOST_NODES, SLOTS};
 use Refusal::*;
 
 /// The longest plan: 50, 53, 64 cables and 45.
@@ -49,7 +49,7 @@ pub fn decode(plan: &[u8]) -> Result<Record, Refusal> {
 
     cursor.command(0x50)?;
     let [nodes] = cursor.operands()?;
-    refuse_unless((2..=32).contains(&nodes), BadNodeCount)?;
+    refuse_unless((2..=MOST_NODES).contains(&nodes), BadNodeCount)?;
 
     cursor.command(0x53)?;
     let [source, sink] = cursor.operands()?;
@@ -80,7 +80,7 @@ pub fn decode(plan: &[u8]) -> Result<Record, Refusal> {
 /// Tests a record.
 pub fn fault(record: &Record) -> Result<(), Refusal> {
     let nodes = record.nodes;
-    refuse_unless((2..=32).contains(&nodes), BadNodeCount)?;
+    refuse_unless((2..=MOST_NODES).contains(&nodes), BadNodeCount)?;
     refuse_unless(record.source.max(record.sink) < nodes, TerminalOutside)?;
     refuse_unless(record.source != record.sink, SameTerminals)?;
     for edge in 0..SLOTS {

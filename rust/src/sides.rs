@@ -2,15 +2,18 @@
 
 use std::collections::HashSet;
 
-use crate::answers::{Part, Row, Verdict};
+use crate::answers::{Nodes, Part, Row, Verdict};
 use crate::brute::members;
-use crate::record::Record;
+use crate::record::{Record, MOST_NODES};
+
+/// For each node the nodes beside it.
+type Beside = [Nodes; MOST_NODES as usize];
 
 /// The useful part by ears: one way from server to room, and then, as long as there are any, ways
 /// that leave the part so far at one point and come back to it at another.
 pub fn relevant(record: &Record) -> Part {
     let beside = neighbours(record, record.present);
-    let (source, sink) = (1u32 << record.source, 1u32 << record.sink);
+    let (source, sink): (Nodes, Nodes) = (1 << record.source, 1 << record.sink);
     let Some(way) = way(&beside, source, sink, 0) else {
         return Part {
             nodes: source | sink,
@@ -28,19 +31,19 @@ pub fn relevant(record: &Record) -> Part {
 }
 
 /// An ear: nodes on a way that leaves `nodes` at one of them and comes back at another.
-fn ear(beside: &[u32; 32], nodes: u32) -> Option<u32> {
-    (0..32)
+fn ear(beside: &Beside, nodes: Nodes) -> Option<Nodes> {
+    (0..beside.len())
         .filter(|leaving| nodes >> leaving & 1 == 1)
         .find_map(|leaving| {
             let back = nodes & !(1 << leaving);
-            (0..32)
+            (0..beside.len())
                 .filter(|next| beside[leaving] & !nodes & 1 << next != 0)
                 .find_map(|next| way(beside, 1 << next, back, 1 << leaving))
         })
 }
 
 /// The nodes of a shortest way from a node of `from` to one of `to` that avoids `closed`.
-fn way(beside: &[u32; 32], from: u32, to: u32, closed: u32) -> Option<u32> {
+fn way(beside: &Beside, from: Nodes, to: Nodes, closed: Nodes) -> Option<Nodes> {
     let mut layers = vec![from & !closed];
     let mut seen = layers[0];
     loop {
@@ -75,7 +78,7 @@ pub fn list_by_subsets(record: &Record) -> Vec<Row> {
         return vec![alone(record)];
     }
     let beside = neighbours(record, part.edges);
-    let (source, sink) = (1u32 << record.source, 1u32 << record.sink);
+    let (source, sink): (Nodes, Nodes) = (1 << record.source, 1 << record.sink);
     let inner = part.nodes & !source & !sink;
     assert!(inner.count_ones() <= 18, "too many sets: {record:?}");
 
@@ -107,8 +110,8 @@ pub fn list_by_growth(record: &Record, most: usize) -> Option<Vec<Row>> {
         return (most > 0).then(|| vec![alone(record)]);
     }
     let beside = neighbours(record, part.edges);
-    let (source, sink) = (1u32 << record.source, 1u32 << record.sink);
-    let closed = |side: u32| part.nodes & !reach(&beside, sink, part.nodes & !side);
+    let (source, sink): (Nodes, Nodes) = (1 << record.source, 1 << record.sink);
+    let closed = |side: Nodes| part.nodes & !reach(&beside, sink, part.nodes & !side);
 
     let least = closed(source);
     let mut found = HashSet::from([least]);
@@ -138,7 +141,7 @@ pub fn list_by_growth(record: &Record, most: usize) -> Option<Vec<Row>> {
 pub fn verdict(record: &Record, set: u64) -> Verdict {
     let is_cut = |set: u64| {
         let beside = neighbours(record, record.present & !set);
-        reach(&beside, 1 << record.source, u32::MAX) >> record.sink & 1 == 0
+        reach(&beside, 1 << record.source, Nodes::MAX) >> record.sink & 1 == 0
     };
     if !is_cut(set) {
         Verdict::NotCut
@@ -158,7 +161,7 @@ fn alone(record: &Record) -> Row {
 }
 
 /// A near side with its cut: the useful cables with one end in it.
-fn row(record: &Record, part: Part, side: u32) -> Row {
+fn row(record: &Record, part: Part, side: Nodes) -> Row {
     let leaving = edges_where(record, |one, other| (side >> one ^ side >> other) & 1 == 1);
     Row {
         cut: part.edges & leaving,
@@ -175,8 +178,8 @@ fn edges_where(record: &Record, such: impl Fn(u8, u8) -> bool) -> u64 {
 }
 
 /// The nodes beside each node, over these edges.
-fn neighbours(record: &Record, edges: u64) -> [u32; 32] {
-    let mut beside = [0; 32];
+fn neighbours(record: &Record, edges: u64) -> Beside {
+    let mut beside = [0; MOST_NODES as usize];
     for edge in members(edges) {
         let (first, second) = (record.first[edge], record.second[edge]);
         beside[usize::from(first)] |= 1 << second;
@@ -186,7 +189,7 @@ fn neighbours(record: &Record, edges: u64) -> [u32; 32] {
 }
 
 /// The nodes beside any of `nodes`.
-fn around(beside: &[u32; 32], nodes: u32) -> u32 {
+fn around(beside: &Beside, nodes: Nodes) -> Nodes {
     let mut found = 0;
     let mut left = nodes;
     while left != 0 {
@@ -197,7 +200,7 @@ fn around(beside: &[u32; 32], nodes: u32) -> u32 {
 }
 
 /// What `start` reaches inside `within`.
-fn reach(beside: &[u32; 32], start: u32, within: u32) -> u32 {
+fn reach(beside: &Beside, start: Nodes, within: Nodes) -> Nodes {
     let mut reached = start;
     let mut fresh = start;
     while fresh != 0 {

@@ -1,13 +1,13 @@
 //! The library's functions. Every call is made on guarded memory: what is lent for reading must be
 //! the same afterwards, and nothing beside lent memory may be written.
 
-use crate::answers::{Part, Widths};
+use crate::answers::{Nodes, Part, Widths};
 use crate::lent::{Guarded, Rows};
 use crate::record::{Record, SLOTS};
 
 /// The functions as include/cutlist.h declares them, with nothing around.
 pub mod capi {
-    use super::{Record, SLOTS};
+    use super::{Nodes, Record, SLOTS};
 
     unsafe extern "C" {
         pub fn cutlist_decode(
@@ -29,7 +29,7 @@ pub mod capi {
     macro_rules! on_a_record {
         ($(fn $name:ident($($more:ident: $type:ty),*);)*) => {
             mod on_fields {
-                use super::SLOTS;
+                use super::{Nodes, SLOTS};
 
                 unsafe extern "C" {
                     $(
@@ -69,12 +69,12 @@ pub mod capi {
     on_a_record! {
         fn cutlist_fault();
         fn cutlist_encode(plan: *mut u8, length: usize, count: *mut usize);
-        fn cutlist_relevant(node_set: *mut u32, edge_set: *mut u64);
+        fn cutlist_relevant(node_set: *mut Nodes, edge_set: *mut u64);
         fn cutlist_classify(set: u64, verdict: *mut u8);
         fn cutlist_list(
             cuts: *mut u64,
             cut_rows: usize,
-            sides: *mut u32,
+            sides: *mut Nodes,
             side_rows: usize,
             count: *mut usize
         );
@@ -176,7 +176,7 @@ pub fn encode(record: &Record, plan: &mut [u8]) -> (u8, usize) {
 
 /// The useful part: the refusal number and both sets.
 pub fn relevant(record: &Record) -> (u8, Part) {
-    let mut nodes = Guarded::new(u32::from_ne_bytes([STALE; 4]));
+    let mut nodes = Guarded::new(Nodes::from_ne_bytes([STALE; size_of::<Nodes>()]));
     let mut edges = Guarded::new(u64::from_ne_bytes([STALE; 8]));
 
     // SAFETY: each pointer is valid for its type, and no two overlap.
@@ -212,7 +212,7 @@ pub fn classify(record: &Record, set: u64) -> (u8, u8) {
 }
 
 /// Lists the minimal cuts into lent rows: the refusal number and the count.
-pub fn list(record: &Record, cuts: &mut [u64], sides: &mut [u32]) -> (u8, usize) {
+pub fn list(record: &Record, cuts: &mut [u64], sides: &mut [Nodes]) -> (u8, usize) {
     let mut lent_cuts = Rows::new(cuts);
     let mut lent_sides = Rows::new(sides);
     let mut count = Guarded::new(usize::from_ne_bytes([STALE; size_of::<usize>()]));
@@ -235,7 +235,7 @@ pub fn list(record: &Record, cuts: &mut [u64], sides: &mut [u32]) -> (u8, usize)
 }
 
 /// The same straight on the rows, with nothing around the call: for measuring.
-pub fn list_bare(record: &Record, cuts: &mut [u64], sides: &mut [u32]) -> (u8, usize) {
+pub fn list_bare(record: &Record, cuts: &mut [u64], sides: &mut [Nodes]) -> (u8, usize) {
     let mut count = 0;
 
     // SAFETY: each pointer is valid for its type and length, and no two overlap.

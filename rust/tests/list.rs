@@ -2,7 +2,7 @@
 
 use std::time::{Duration, Instant};
 
-use cutlist_tests::answers::Row;
+use cutlist_tests::answers::{Nodes, Row};
 use cutlist_tests::halls;
 use cutlist_tests::lent;
 use cutlist_tests::plans;
@@ -58,7 +58,7 @@ fn list_with_all(rng: &mut Rng, record: &Record, rows: &[Row], tally: &mut Tally
 }
 
 /// The hall lists as these cuts and sides, whatever rows are lent.
-fn assert_hall(hall: &Record, cuts: &[u64], sides: &[u32]) {
+fn assert_hall(hall: &Record, cuts: &[u64], sides: &[Nodes]) {
     let mut lent_cuts = vec![0xEEEE_EEEE; cuts.len() + 3];
     let mut lent_sides = vec![0xEEEE; cuts.len() + 3];
     let answer = sys::list(hall, &mut lent_cuts, &mut lent_sides);
@@ -183,7 +183,7 @@ fn complete_halls() {
     assert!(cuts.windows(2).all(|pair| pair[0] < pair[1]));
     let mut each = sides;
     each.sort_unstable();
-    let every: Vec<u32> = (0..512).map(|inner| 2 * inner + 1).collect();
+    let every: Vec<Nodes> = (0..512).map(|inner| 2 * inner + 1).collect();
     assert_eq!(each[..], every);
 }
 
@@ -235,7 +235,7 @@ fn table_1_of_martelli_1973() {
         printed.sort_unstable();
         assert_eq!(printed.len(), count);
         let record = network(source);
-        let sides: Vec<u32> = brute::list(&record).iter().map(|row| row.side).collect();
+        let sides: Vec<Nodes> = brute::list(&record).iter().map(|row| row.side).collect();
         assert_hall(&record, &printed, &sides);
     }
 }
@@ -362,12 +362,12 @@ fn long_lists() {
 /// Far more time than any of these calls needs, and far less than a search without bounds takes.
 const SOON: Duration = Duration::from_millis(50);
 
-fn assert_soon(hall: &Record, lent: usize) -> (u8, usize, Vec<u64>, Vec<u32>) {
+fn assert_soon(hall: &Record, lent: usize) -> (u8, usize, Vec<u64>, Vec<Nodes>) {
     assert_within(SOON, hall, lent)
 }
 
 /// The answer comes in time; the best of three tries counts, since the machine may be busy.
-fn assert_within(time: Duration, hall: &Record, lent: usize) -> (u8, usize, Vec<u64>, Vec<u32>) {
+fn assert_within(time: Duration, hall: &Record, lent: usize) -> (u8, usize, Vec<u64>, Vec<Nodes>) {
     let mut cuts = vec![5; lent];
     let mut sides = vec![6; lent];
     let mut best = Duration::MAX;
@@ -404,7 +404,7 @@ fn large_halls_with_short_lists() {
         let rows = sides::list_by_growth(&hall, 1_000).expect("a short list");
         assert_eq!(rows.len(), count, "{hall:?}");
         let expected_cuts: Vec<u64> = rows.iter().map(|row| row.cut).collect();
-        let expected_sides: Vec<u32> = rows.iter().map(|row| row.side).collect();
+        let expected_sides: Vec<Nodes> = rows.iter().map(|row| row.side).collect();
         for lent in [count, count + 1, 2048] {
             let (refusal, found, cuts, sides) = assert_soon(&hall, lent);
             assert_eq!((refusal, found), (0, count));

@@ -1,8 +1,9 @@
 //! Random plans, whole and damaged: the same refusal and the same record from the library and from
 //! the reference; what is accepted is written back unchanged.
 
+use cutlist_tests::answers::Nodes;
 use cutlist_tests::plans::{self, Damage};
-use cutlist_tests::record::Record;
+use cutlist_tests::record::{Record, MOST_NODES};
 use cutlist_tests::reference::{DECIDING, LONGEST_PLAN, READING};
 use cutlist_tests::rng::Rng;
 use cutlist_tests::tally::Tally;
@@ -12,7 +13,7 @@ use cutlist_tests::{compare, sys};
 fn whole_plans_are_accepted_and_written_back() {
     let mut rng = Rng::new(1);
     let (mut none, mut all, mut gaps, mut parallel) = (0, 0, 0, 0);
-    let mut sizes = [0; 33];
+    let mut sizes = [0; MOST_NODES as usize + 1];
     for _ in 0..100_000 {
         let record = plans::record(&mut rng);
         let plan = plans::bytes(&record);
@@ -32,7 +33,7 @@ fn whole_plans_are_accepted_and_written_back() {
 
 /// Whether two edges join the same nodes.
 fn has_parallel(record: &Record) -> bool {
-    let mut seen = [0u32; 32];
+    let mut seen: [Nodes; MOST_NODES as usize] = [0; MOST_NODES as usize];
     record.edges().any(|edge| {
         let (one, other) = (record.first[edge], record.second[edge]);
         let (low, high) = (one.min(other), one.max(other));

@@ -3,7 +3,7 @@
 
 use cutlist_tests::compare;
 use cutlist_tests::plans;
-use cutlist_tests::record::{Record, SLOTS};
+use cutlist_tests::record::{Record, MOST_NODES, SLOTS};
 use cutlist_tests::reference::FAULTS;
 use cutlist_tests::rng::Rng;
 use cutlist_tests::sys;
@@ -51,7 +51,7 @@ fn the_all_zero_record_is_4() {
 fn one_fault_alone_gives_its_number() {
     let good = Record::bare(4, 0, 3).with(0, 0, 1).with(63, 2, 3);
     assert_eq!(compare::fault(&good), 0);
-    for nodes in [0, 1, 33, 64, 128, 255] {
+    for nodes in [0, 1, MOST_NODES + 1, MOST_NODES + 2, 128, 255] {
         assert_fault(&changed(&good, |r| r.nodes = nodes), 4);
     }
     for high in [4, 5, 32, 128, 255] {
@@ -122,15 +122,16 @@ fn points_server_and_room_come_before_the_slots_in_the_order_4_5_6() {
             let both = changed(&record, |r| (r.source, r.sink) = (5, 5));
             assert_fault(&both, 5);
             assert_fault(&changed(&both, |r| r.nodes = 1), 4);
-            assert_fault(&changed(&both, |r| r.nodes = 33), 4);
-            assert_fault(&changed(&record, |r| (r.nodes, r.sink) = (33, 0)), 4);
+            assert_fault(&changed(&both, |r| r.nodes = MOST_NODES + 1), 4);
+            let more = changed(&record, |r| (r.nodes, r.sink) = (MOST_NODES + 1, 0));
+            assert_fault(&more, 4);
         }
     }
 }
 
 #[test]
 fn all_point_counts_with_servers_and_rooms() {
-    let values: Vec<u8> = (0..=40).chain([63, 64, 127, 128, 254, 255]).collect();
+    let values: Vec<u8> = (0..=MOST_NODES + 8).chain([127, 128, 254, 255]).collect();
     let mut tally = Tally::default();
     for nodes in 0..=255 {
         for &source in &values {
@@ -141,14 +142,21 @@ fn all_point_counts_with_servers_and_rooms() {
     }
     tally.assert_only(&[0, 4, 5, 6]);
     let pairs = (values.len() * values.len()) as u64;
-    assert_eq!(tally.of(4), 225 * pairs);
-    assert_eq!(tally.of(6), (2..=32).sum::<u64>());
-    assert_eq!(tally.of(0), (2..=32).map(|n| n * (n - 1)).sum::<u64>());
+    let counts = 2..=u64::from(MOST_NODES);
+    assert_eq!(tally.of(4), (256 - counts.clone().count() as u64) * pairs);
+    assert_eq!(tally.of(6), counts.clone().sum::<u64>());
+    assert_eq!(tally.of(0), counts.map(|n| n * (n - 1)).sum::<u64>());
 }
 
 #[test]
 fn all_pairs_of_ends_in_one_slot() {
-    for (nodes, slot) in [(2, 0), (3, 63), (17, 31), (31, 32), (32, 1)] {
+    for (nodes, slot) in [
+        (2, 0),
+        (3, 63),
+        (17, 31),
+        (MOST_NODES - 1, 32),
+        (MOST_NODES, 1),
+    ] {
         let mut present = Tally::default();
         let mut absent = Tally::default();
         for first in 0..=255 {
@@ -199,17 +207,18 @@ fn random_records_are_tested_and_written_alike() {
 /// Records of random bytes throughout.
 #[test]
 fn wild_records_are_tested_alike() {
+    let most = usize::from(MOST_NODES);
     let mut rng = Rng::new(13);
     let mut tally = Tally::default();
     for _ in 0..200_000 {
         let mut record = Record {
-            nodes: 2 + rng.below(32) as u8,
-            source: rng.below(34) as u8,
-            sink: rng.below(34) as u8,
+            nodes: 2 + rng.below(most) as u8,
+            source: rng.below(most + 2) as u8,
+            sink: rng.below(most + 2) as u8,
             present: rng.draw(),
             ..Record::default()
         };
-        let bound = 1 + rng.below(33);
+        let bound = 1 + rng.below(most + 1);
         for slot in 0..SLOTS {
             if record.holds(slot) || rng.once_in(40) {
                 record.first[slot] = rng.below(bound) as u8;

@@ -3,6 +3,7 @@
 
 use std::collections::HashMap;
 
+use cutlist_tests::answers::Nodes;
 use cutlist_tests::halls;
 use cutlist_tests::plans;
 use cutlist_tests::record::{Record, SLOTS};
@@ -13,7 +14,7 @@ use cutlist_tests::{brute, sys};
 fn cuts(rng: &mut Rng, record: &Record) -> Vec<u64> {
     let lent = brute::list(record).len() + rng.below(3) * rng.below(40);
     let mut cuts: Vec<u64> = (0..lent).map(|_| rng.draw()).collect();
-    let mut sides: Vec<u32> = (0..lent).map(|_| rng.draw() as u32).collect();
+    let mut sides: Vec<Nodes> = (0..lent).map(|_| rng.draw() as Nodes).collect();
     let (refusal, count) = sys::list(record, &mut cuts, &mut sides);
     assert_eq!(refusal, 0, "{record:?}");
     cuts.truncate(count);

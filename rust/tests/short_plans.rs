@@ -5,6 +5,7 @@ use std::ops::RangeInclusive;
 use std::thread;
 
 use cutlist_tests::compare;
+use cutlist_tests::record::MOST_NODES;
 use cutlist_tests::tally::Tally;
 
 /// All inputs that begin with `prefix` and go on for `more` bytes out of `alphabet`.
@@ -82,7 +83,7 @@ fn all_continuations_of_up_to_2_bytes() {
 /// The same where all 64 cables have come.
 #[test]
 fn all_continuations_of_64_cables() {
-    let mut full = vec![0x50, 32, 0x53, 31, 0];
+    let mut full = vec![0x50, MOST_NODES, 0x53, 31, 0];
     for edge in 0..64 {
         full.extend([0x43, edge, edge / 2, 31 - edge / 2]);
     }
@@ -116,7 +117,12 @@ fn all_operands_of_a_command() {
     let sparse: Vec<u8> = (0..=70).chain([126, 127, 128, 129, 254, 255]).collect();
     let mut tally = Tally::default();
     for before in [&[][..], &[0x43, 30, 0, 1]] {
-        let mut plan = [&[0x50, 32, 0x53, 0, 31], before, &[0x43, 0, 0, 0, 0x45]].concat();
+        let mut plan = [
+            &[0x50, MOST_NODES, 0x53, 0, 31],
+            before,
+            &[0x43, 0, 0, 0, 0x45],
+        ]
+        .concat();
         let at = plan.len() - 4;
         for &edge in &sparse {
             for &first in &sparse {
@@ -141,7 +147,12 @@ fn all_operands_of_a_command() {
     }
     tally.assert_only(&[0, 4, 5, 6]);
     // Ordered pairs of different points, for each fit count of points.
-    assert_eq!(tally.of(0), (2..=32).map(|n| n * (n - 1)).sum::<u64>());
+    assert_eq!(
+        tally.of(0),
+        (2..=u64::from(MOST_NODES))
+            .map(|n| n * (n - 1))
+            .sum::<u64>()
+    );
 }
 
 /// Longer continuations over the few bytes that mean something on a hall of two points.

@@ -12,6 +12,7 @@ use std::hint::black_box;
 use std::path::{Path, PathBuf};
 use std::process::{Command, Stdio};
 
+use cutlist_tests::answers::Nodes;
 use cutlist_tests::halls;
 use cutlist_tests::plans;
 use cutlist_tests::record::Record;
@@ -58,7 +59,7 @@ fn stack_of<F: FnMut()>(mut call: F) -> usize {
 /// Rows lent to the list.
 struct Rows {
     cuts: Vec<u64>,
-    sides: Vec<u32>,
+    sides: Vec<Nodes>,
 }
 
 impl Rows {

@@ -1,7 +1,7 @@
 //! The useful part: both sets against the ways through a plan taken one by one, and for larger plans
 //! against ears.
 
-use cutlist_tests::answers::Part;
+use cutlist_tests::answers::{Nodes, Part};
 use cutlist_tests::halls;
 use cutlist_tests::plans;
 use cutlist_tests::record::Record;
@@ -10,7 +10,7 @@ use cutlist_tests::rng::Rng;
 use cutlist_tests::tally::Tally;
 use cutlist_tests::{brute, compare, sides, sys};
 
-fn assert_part(record: &Record, nodes: u32, edges: u64) {
+fn assert_part(record: &Record, nodes: Nodes, edges: u64) {
     let part = Part { nodes, edges };
     assert_eq!(sys::relevant(record), (0, part), "{record:?}");
     assert_eq!(brute::relevant(record), part, "{record:?}");
@@ -189,7 +189,7 @@ fn patterns_of_up_to_32_points() {
     ] {
         for hall in [halls::turned(hall.clone()), hall] {
             let part = Part {
-                nodes: u32::MAX,
+                nodes: Nodes::MAX,
                 edges: hall.present,
             };
             assert_eq!(sides::relevant(&hall), part);

@@ -4,7 +4,7 @@
 
 use std::array;
 
-use crate::record::{Record, SLOTS};
+use crate::record::{Record, MOST_NODES, SLOTS};
 
 /// Bytes in the head.
 pub const HEAD: usize = 22;
@@ -172,8 +172,8 @@ pub fn record(fields: &[u8; FIELDS]) -> Record {
 pub fn fitted(body: &[u8]) -> Record {
     let at = |place: usize| body.get(place).copied().unwrap_or(0);
     let nodes = match at(1) {
-        nodes @ 2..=32 => nodes,
-        other => 2 + other % 31,
+        nodes @ 2..=MOST_NODES => nodes,
+        other => 2 + other % (MOST_NODES - 1),
     };
     let (source, sink) = apart(nodes, at(3), at(4));
     let mut fitted = Record::bare(nodes, source, sink);
