@@ -66,7 +66,7 @@ static void print_set(uint64_t set)
 static uint8_t list(const uint8_t *bytes, size_t length)
 {
     static uint64_t cuts[ROWS];
-    static uint32_t sides[ROWS];
+    static uint64_t sides[ROWS];
     struct cutlist_plan plan;
     size_t count, row;
     uint8_t refusal;

@@ -4,7 +4,7 @@
  * A plan has points (nodes) and cables (edges) between two points each; one point is the server
  * (source), one the room (sink). A plan crosses the border as bytes, or as a record field by field:
  *
- *   nodes    the point count, 2 to 32; points are numbered from 0
+ *   nodes    the point count, 2 to 64; points are numbered from 0
  *   source   the server
  *   sink     the room
  *   present  the set of cables present; cables have numbers 0 to 63
@@ -15,7 +15,7 @@
  * there is an inline function that takes the struct: cutlist_plan_fault for cutlist_fault. A call of
  * those stays as it is when plans gain a field.
  *
- * A set is a number in which member k weighs 2^k: 64 bits for cables, 32 bits for points.
+ * A set is a number in which member k weighs 2^k: 64 bits, for cables as for points.
  *
  * Every function but cutlist_widths gives the number of a refusal, CUTLIST_ACCEPTED if there is
  * none. Whatever a record's fields hold, the call is safe: each call tests the record first, as
@@ -23,8 +23,7 @@
  * rows are untouched then.
  *
  * No pointer may be NULL, not even beside a length of 0, and each must be aligned as its type asks,
- * on x86-64 to 8 bytes for uint64_t and size_t and to 4 for uint32_t. A length counts elements, not
- * bytes, and may not be larger than the memory lent. No two pointers may lead to the same memory if
+ * on x86-64 to 8 bytes for uint64_t and size_t. A length counts elements, not bytes, and may not be larger than the memory lent. No two pointers may lead to the same memory if
  * one of them is written through.
  *
  * The header is C99, or C++98, and later.
@@ -35,7 +34,7 @@
  *
  * Each call takes at most CUTLIST_STACK_BYTES of stack, cutlist_list the most and every other call
  * less than 1 KiB: rust/tests/stack.rs measures it, on halls where the list goes as deep as it can.
- * The list program makes all that it prints on its stack, and needs 640 KiB.
+ * The list program makes all that it prints on its stack, and needs 896 KiB.
  */
 #ifndef CUTLIST_H
 #define CUTLIST_H
@@ -60,7 +59,7 @@ extern "C" {
 #define CUTLIST_DECIDING_BYTES 265
 
 /* Bytes of stack that suffice for every call. */
-#define CUTLIST_STACK_BYTES 8192
+#define CUTLIST_STACK_BYTES 16384
 
 /* Why a call refused. Bytes are named in hexadecimal. */
 enum cutlist_refusal {
@@ -72,7 +71,7 @@ enum cutlist_refusal {
     CUTLIST_TRAILING_BYTE = 3,          /* a byte after 45 */
 
     /* By the one who surveyed the hall. */
-    CUTLIST_BAD_NODE_COUNT = 4,         /* point count not 2 to 32 */
+    CUTLIST_BAD_NODE_COUNT = 4,         /* point count not 2 to 64 */
     CUTLIST_TERMINAL_OUTSIDE = 5,       /* server or room not below the point count */
     CUTLIST_SAME_TERMINALS = 6,         /* server and room the same point */
     CUTLIST_EDGE_NUMBER_TOO_HIGH = 7,   /* cable number above 63 */
@@ -157,7 +156,7 @@ uint8_t cutlist_relevant(
     uint64_t present,
     const uint8_t first[CUTLIST_SLOTS],
     const uint8_t second[CUTLIST_SLOTS],
-    uint32_t *node_set,
+    uint64_t *node_set,
     uint64_t *edge_set);
 
 /*
@@ -193,7 +192,7 @@ uint8_t cutlist_list(
     const uint8_t first[CUTLIST_SLOTS],
     const uint8_t second[CUTLIST_SLOTS],
     uint64_t *cuts, size_t cuts_length,
-    uint32_t *sides, size_t sides_length,
+    uint64_t *sides, size_t sides_length,
     size_t *count);
 
 /*
@@ -261,7 +260,7 @@ static inline uint8_t cutlist_plan_encode(
 /* Finds the useful part, as cutlist_relevant does. */
 static inline uint8_t cutlist_plan_relevant(
     const struct cutlist_plan *plan,
-    uint32_t *node_set,
+    uint64_t *node_set,
     uint64_t *edge_set)
 {
     return cutlist_relevant(CUTLIST_FIELDS(plan), node_set, edge_set);
@@ -280,7 +279,7 @@ static inline uint8_t cutlist_plan_classify(
 static inline uint8_t cutlist_plan_list(
     const struct cutlist_plan *plan,
     uint64_t *cuts, size_t cuts_length,
-    uint32_t *sides, size_t sides_length,
+    uint64_t *sides, size_t sides_length,
     size_t *count)
 {
     return cutlist_list(CUTLIST_FIELDS(plan), cuts, cuts_length, sides, sides_length, count);

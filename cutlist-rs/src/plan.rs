@@ -298,7 +298,7 @@ mod tests {
     #[test]
     fn faults_are_refused_as_the_plan_is_built() {
         assert_eq!(Plan::new(1, 0, 1), Err(Refusal::BadNodeCount));
-        assert_eq!(Plan::new(33, 0, 1), Err(Refusal::BadNodeCount));
+        assert_eq!(Plan::new(65, 0, 1), Err(Refusal::BadNodeCount));
         assert_eq!(Plan::new(2, 0, 2), Err(Refusal::TerminalOutside));
         assert_eq!(Plan::new(2, 1, 1), Err(Refusal::SameTerminals));
     }

@@ -52,7 +52,7 @@ refusals! {
     1 Truncated "the plan stops early"
     2 UnfitCommand "a byte that is no command fit for its place"
     3 TrailingByte "a byte after 45"
-    4 BadNodeCount "point count not 2 to 32"
+    4 BadNodeCount "point count not 2 to 64"
     5 TerminalOutside "server or room not below the point count"
     6 SameTerminals "server and room the same point"
     7 EdgeNumberTooHigh "cable number above 63"

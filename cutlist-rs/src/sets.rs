@@ -6,7 +6,7 @@ use std::iter::FusedIterator;
 /// A set of points.
 #[derive(Clone, Copy, Debug, Default, PartialEq, Eq, PartialOrd, Ord, Hash)]
 #[repr(transparent)]
-pub struct NodeSet(pub u32);
+pub struct NodeSet(pub u64);
 
 /// A set of cables.
 #[derive(Clone, Copy, Debug, Default, PartialEq, Eq, PartialOrd, Ord, Hash)]
@@ -16,7 +16,7 @@ pub struct EdgeSet(pub u64);
 impl NodeSet {
     /// The members, rising.
     pub fn iter(self) -> Members {
-        Members(self.0.into())
+        Members(self.0)
     }
 
     /// Whether the point is a member.
@@ -137,13 +137,13 @@ mod tests {
         assert_eq!(nodes.into_iter().collect::<Vec<u8>>(), [1, 2, 31]);
         assert_eq!(nodes.iter().len(), nodes.len());
         assert_eq!(EdgeSet(u64::MAX).iter().len(), 64);
-        assert_eq!(NodeSet(u32::MAX).iter().len(), 32);
+        assert_eq!(NodeSet(u64::MAX).iter().len(), 64);
     }
 
     #[test]
     fn what_is_beyond_a_set_is_no_member() {
         assert!(EdgeSet(u64::MAX).contains(63) && !EdgeSet(u64::MAX).contains(64));
-        assert!(NodeSet(u32::MAX).contains(31) && !NodeSet(u32::MAX).contains(32));
+        assert!(NodeSet(u64::MAX).contains(63) && !NodeSet(u64::MAX).contains(64));
         assert!(!EdgeSet(0b101).contains(1) && !NodeSet(0b101).contains(1));
     }
 

@@ -94,12 +94,12 @@ macro_rules! on_a_record {
 on_a_record! {
     fn cutlist_fault();
     fn cutlist_encode(plan: *mut u8, plan_length: usize, count: *mut usize);
-    fn cutlist_relevant(node_set: *mut u32, edge_set: *mut u64);
+    fn cutlist_relevant(node_set: *mut u64, edge_set: *mut u64);
     fn cutlist_classify(set: u64, verdict: *mut u8);
     fn cutlist_list(
         cuts: *mut u64,
         cuts_length: usize,
-        sides: *mut u32,
+        sides: *mut u64,
         sides_length: usize,
         count: *mut usize
     );
@@ -139,7 +139,7 @@ pub fn encode(r: &Record, plan: &mut [u8]) -> (u8, usize) {
 }
 
 /// The useful points and the useful cables.
-pub fn relevant(r: &Record) -> (u8, (u32, u64)) {
+pub fn relevant(r: &Record) -> (u8, (u64, u64)) {
     let (mut nodes, mut edges) = (0, 0);
     // SAFETY: each pointer is valid for its type, and no two overlap.
     let refusal = unsafe { cutlist_relevant(r, &mut nodes, &mut edges) };

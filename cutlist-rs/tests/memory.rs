@@ -11,12 +11,13 @@ const NAME: &str = "a_list_that_memory_cannot_hold_is_an_error";
 /// Set in the process that has little memory.
 const LITTLE: &str = "CUTLIST_LITTLE_MEMORY";
 
-/// Two hubs with 30 points between: 2^30 minimal cuts, 12 GiB of rows.
+/// Two hubs with 30 points between, spread over all 64 points: 2^30 minimal cuts, 16 GiB of rows.
 fn two_hubs() -> Plan {
-    let bare = Plan::new(32, 0, 31).expect("accepted");
+    let bare = Plan::new(64, 0, 63).expect("accepted");
     (1..=30).fold(bare, |plan, node| {
-        let plan = plan.with_edge(2 * node - 2, 0, node).expect("accepted");
-        plan.with_edge(2 * node - 1, node, 31).expect("accepted")
+        let (cable, point) = (2 * node, 2 * node + 1);
+        let plan = plan.with_edge(cable, 0, point).expect("accepted");
+        plan.with_edge(cable + 1, point, 63).expect("accepted")
     })
 }
 

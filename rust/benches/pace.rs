@@ -12,7 +12,7 @@ use cutlist_tests::halls;
 use cutlist_tests::plans;
 use cutlist_tests::record::Record;
 use cutlist_tests::rng::Rng;
-use cutlist_tests::{ordinary, sys};
+use cutlist_tests::{ordinary, sides, sys};
 
 /// The most rows that are lent.
 const MOST: usize = 1 << 21;
@@ -132,10 +132,10 @@ fn check(record: &Record) -> (usize, Duration) {
 }
 
 /// One line for the hall with exactly the rows that it needs lent, and one with so many that no
-/// plan of its size can outnumber them, where that is a different number.
+/// plan with as many useful points can outnumber them, where that is a different number.
 fn measure(name: &str, record: &Record) {
     let (count, slower) = check(record);
-    let ample = 1usize << (record.nodes - 2);
+    let ample = 1usize << (sides::relevant(record).nodes.count_ones() - 2);
     let lent = match ample {
         ample if ample == count || ample > MOST => vec![count],
         ample => vec![count, ample],
@@ -146,7 +146,7 @@ fn measure(name: &str, record: &Record) {
         let medians = medians(record, rows, calls);
         let each = |time: Duration| time.as_nanos() as f64 / count as f64;
         println!(
-            "{name:<28} {:>6} {:>6} {count:>8} {rows:>8} {calls:>5} {:>9.1} {:>9.1} {:>9.1} {:>6.2}",
+            "{name:<32} {:>6} {:>6} {count:>8} {rows:>8} {calls:>5} {:>9.1} {:>9.1} {:>9.1} {:>6.2}",
             record.nodes,
             record.present.count_ones(),
             each(medians.library),
@@ -171,7 +171,7 @@ fn dense(nodes: u8, seed: u64) -> Record {
 
 fn main() {
     println!(
-        "{:<28} {:>6} {:>6} {:>8} {:>8} {:>5} {:>9} {:>9} {:>9} {:>6}",
+        "{:<32} {:>6} {:>6} {:>8} {:>8} {:>5} {:>9} {:>9} {:>9} {:>6}",
         "hall",
         "points",
         "cables",
@@ -183,7 +183,7 @@ fn main() {
         "ordinary",
         "ratio"
     );
-    println!("{:>76} {:>9} {:>9}", "ns/row", "ns/row", "ns/row");
+    println!("{:>80} {:>9} {:>9}", "ns/row", "ns/row", "ns/row");
     measure("bridge", &halls::bridge());
     measure("line of 32, double", &halls::line(32, 2));
     measure("fan of 30", &halls::fan(30));
@@ -205,6 +205,21 @@ fn main() {
     }
     measure("grid of 4 by 8", &halls::grid(4, 8));
     measure("two hubs with 20 between", &halls::two_hubs(20));
+
+    // The halls that use all 64 points; then some of the above spread over all of them.
+    measure("line of 64", &halls::line(64, 1));
+    measure("circle of 64", &halls::circle(64, &[1]));
+    for (name, hall) in [
+        ("fan of 30", halls::fan(30)),
+        ("ladder of 2 by 16", halls::grid(2, 16)),
+        ("every pair of 11", halls::complete(11)),
+        ("grid of 4 by 8", halls::grid(4, 8)),
+        ("dense of 18, seed 1", dense(18, 1)),
+        ("dense of 24, seed 1", dense(24, 1)),
+        ("two hubs with 20 between", halls::two_hubs(20)),
+    ] {
+        measure(&format!("{name}, spread"), &halls::spread(&hall));
+    }
 
     let eleven = halls::complete(11);
     let Medians {

@@ -1,7 +1,7 @@
 //! What the calls on a plan record answer.
 
 /// A set of nodes (points): node k weighs 2^k.
-pub type Nodes = u32;
+pub type Nodes = u64;
 
 /// The useful part of a plan.
 #[derive(Clone, Copy, Debug, Default, PartialEq, Eq)]

@@ -1,6 +1,6 @@
 //! Halls with a name or a pattern. The server is point 0 unless said otherwise.
 
-use crate::record::Record;
+use crate::record::{Record, MOST_NODES};
 
 /// A hall whose cables 0, 1, 2 .. join these points in turn.
 pub fn hall(nodes: u8, sink: u8, ends: &[(u8, u8)]) -> Record {
@@ -116,6 +116,17 @@ pub fn string_of_fours(groups: u8) -> Record {
         }
     }
     hall(4 * groups, 4 * groups - 1, &ends)
+}
+
+/// The same hall with its points spread over all numbers that points can have, in their order; the
+/// points between them hang on nothing.
+pub fn spread(hall: &Record) -> Record {
+    let last = MOST_NODES - 1;
+    let place = |node: u8| (u16::from(node) * u16::from(last) / u16::from(hall.nodes - 1)) as u8;
+    let bare = Record::bare(MOST_NODES, place(hall.source), place(hall.sink));
+    hall.edges().fold(bare, |spread, edge| {
+        spread.with(edge, place(hall.first[edge]), place(hall.second[edge]))
+    })
 }
 
 /// The same hall with server and room exchanged.

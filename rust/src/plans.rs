@@ -110,8 +110,22 @@ pub fn large(rng: &mut Rng) -> Record {
 pub fn renamed(rng: &mut Rng, record: &Record) -> Record {
     let mut names: Vec<u8> = (0..record.nodes).collect();
     rng.shuffle(&mut names);
+    under_names(rng, record, record.nodes, &names)
+}
+
+/// The same plan spread over as many points as there can be, of which the others hang on nothing;
+/// and the number that each of its points has there.
+pub fn spread(rng: &mut Rng, record: &Record) -> (Record, Vec<u8>) {
+    let mut names: Vec<u8> = (0..MOST_NODES).collect();
+    rng.shuffle(&mut names);
+    let spread = under_names(rng, record, MOST_NODES, &names);
+    (spread, names)
+}
+
+/// The plan with these names for its points, among so many, with the ends of some cables exchanged.
+fn under_names(rng: &mut Rng, record: &Record, nodes: u8, names: &[u8]) -> Record {
     let name = |node: u8| names[usize::from(node)];
-    let mut other = Record::bare(record.nodes, name(record.source), name(record.sink));
+    let mut other = Record::bare(nodes, name(record.source), name(record.sink));
     for edge in record.edges() {
         let (first, second) = (name(record.first[edge]), name(record.second[edge]));
         other = match rng.once_in(2) {
@@ -346,7 +360,10 @@ impl Damage {
 
 /// The commands of a plan with few values in them, so that many faults stand in one plan.
 pub fn of_few_values(rng: &mut Rng) -> Vec<u8> {
-    let nodes = rng.pick(&[1, 2, 3, 4, MOST_NODES, MOST_NODES + 1]);
+    let nodes = match rng.once_in(2) {
+        true => rng.below(usize::from(MOST_NODES) + 7) as u8,
+        false => rng.pick(&[1, 2, 3, 4, MOST_NODES, MOST_NODES + 1]),
+    };
     let mut plan = vec![0x50, nodes, 0x53, rng.below(4) as u8, rng.below(4) as u8];
     for _ in 0..rng.below(6) {
         let edge = rng.pick(&[0, 1, 2, 3, 4, 5, 6, 7, 62, 63, 64]);

@@ -3,7 +3,7 @@
 use std::fmt;
 
 /// The most nodes (points).
-pub const MOST_NODES: u8 = 32;
+pub const MOST_NODES: u8 = 64;
 
 /// Slots for edges (cables).
 pub const SLOTS: usize = 64;

@@ -15,6 +15,7 @@ use cutlist_tests::fuzz::shrinking::shrink;
 use cutlist_tests::fuzz::{making, questions};
 use cutlist_tests::halls;
 use cutlist_tests::plans;
+use cutlist_tests::record::MOST_NODES;
 use cutlist_tests::reference::DECIDING;
 use cutlist_tests::rng::Rng;
 use cutlist_tests::{brute, reference};
@@ -167,7 +168,7 @@ fn the_digest_is_fixed_by_the_cases() {
 #[test]
 fn cases_of_every_kind_are_made() {
     let mut kinds: BTreeMap<&str, u32> = BTreeMap::new();
-    for (_, bytes) in cases(87, 5_000) {
+    for (_, bytes) in cases(87, 10_000) {
         let case = Case::of(&bytes);
         let record = &case.record;
         let accepted = reference::decode(case.plan).is_ok();
@@ -183,6 +184,11 @@ fn cases_of_every_kind_are_made() {
             ("a faulty record", !fit),
             ("few points", fit && record.nodes <= 7),
             ("many points", fit && record.nodes > 20),
+            ("all points", fit && record.nodes == MOST_NODES),
+            (
+                "a point count just too high",
+                matches!(case.plan, [0x50, 65..=70, ..]),
+            ),
             ("all cables", fit && record.present == u64::MAX),
             ("a set of present cables", case.set & !record.present == 0),
             ("exactly the rows needed", case.rows == Size::Needed(0)),

@@ -79,8 +79,10 @@ fn the_short_examples_are_refused() {
         (1, ""),
         (2, "52"),
         (4, "50 01"),
-        (4, "50 21"),
+        (4, "50 41"),
         (1, "50 20"),
+        (1, "50 21"),
+        (1, "50 40"),
         (5, "50 02 53 00 02 45"),
         (6, "50 02 53 00 00 45"),
     ]);
@@ -136,8 +138,8 @@ fn the_other_halls_are_read_and_written_back() {
         ("50 05 53 04 01 45", Record::bare(5, 4, 1)),
         // The highest numbers, with a gap below them.
         (
-            "50 20 53 1F 00 43 00 1F 1E 43 3F 1E 1F 45",
-            Record::bare(32, 31, 0).with(0, 31, 30).with(63, 30, 31),
+            "50 40 53 3F 00 43 00 3F 3E 43 3F 3E 3F 45",
+            Record::bare(64, 63, 0).with(0, 63, 62).with(63, 62, 63),
         ),
         // One cable, the highest.
         (
@@ -182,9 +184,9 @@ fn operands_come_before_values() {
         // Command bytes as operands are only values.
         (4, "50 45"),
         (4, "50 50"),
-        (5, "50 20 53 45 00"),
+        (5, "50 40 53 45 00"),
         (7, "50 02 53 00 01 43 45 00 01"),
-        (9, "50 20 53 00 01 43 00 45 00"),
+        (9, "50 40 53 00 01 43 00 45 00"),
     ]);
 }
 
@@ -239,6 +241,7 @@ fn values_are_tested_in_their_order() {
         (9, "50 02 53 00 01 43 00 02 00 45"),
         (9, "50 02 53 00 01 43 00 FF FF 45"),
         (9, "50 20 53 00 01 43 00 00 20 45"),
+        (9, "50 40 53 00 01 43 00 00 40 45"),
         (10, "50 02 53 00 01 43 00 00 00 45"),
         (10, "50 02 53 00 01 43 00 01 01 45"),
         // The first command that fails decides.
@@ -273,9 +276,9 @@ fn any_byte_after_45_is_3() {
 
 /// A plan with all 64 cables, without its 45.
 fn full_without_end() -> Vec<u8> {
-    let mut plan = hex("50 20 53 1F 00");
+    let mut plan = hex("50 40 53 3F 00");
     for edge in 0..64 {
-        plan.extend([0x43, edge, edge / 2, (edge / 2 + 1) % 32]);
+        plan.extend([0x43, edge, edge, (edge + 1) % 64]);
     }
     plan
 }
@@ -306,7 +309,7 @@ fn a_65th_cable_is_7_or_8_and_1_if_cut_short() {
     let full = full_without_end();
     let mut tally = Tally::default();
     for edge in 0..=255 {
-        for ends in [[0, 1], [0, 0], [0x20, 0], [0xFF, 0xFF]] {
+        for ends in [[0, 1], [0, 0], [0x40, 0], [0xFF, 0xFF]] {
             let mut plan = full.clone();
             plan.extend([0x43, edge, ends[0], ends[1]]);
             assert_eq!(plan.len(), DECIDING);

@@ -23,11 +23,11 @@ static const uint8_t bridge[26] = {
 int main(void)
 {
     static const uint64_t cuts_listed[5] = {3, 14, 21, 24, 7};
-    static const uint32_t sides_listed[5] = {1, 3, 5, 7, 9};
+    static const uint64_t sides_listed[5] = {1, 3, 5, 7, 9};
     struct cutlist_plan plan, zero;
     uint8_t bytes[27], verdict;
     uint64_t cuts[5] = {7, 7, 7, 7, 7}, edges;
-    uint32_t sides[5] = {9, 9, 9, 9, 9}, nodes;
+    uint64_t sides[5] = {9, 9, 9, 9, 9}, nodes;
     size_t count;
 
     /* Reading, which leaves nothing of what the struct held. */

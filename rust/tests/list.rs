@@ -6,7 +6,7 @@ use cutlist_tests::answers::{Nodes, Row};
 use cutlist_tests::halls;
 use cutlist_tests::lent;
 use cutlist_tests::plans;
-use cutlist_tests::record::Record;
+use cutlist_tests::record::{Record, MOST_NODES};
 use cutlist_tests::reference::FAULTS;
 use cutlist_tests::rng::Rng;
 use cutlist_tests::tally::Tally;
@@ -134,8 +134,8 @@ fn the_bridge_is_listed_from_its_bytes() {
 #[test]
 fn without_a_route_the_list_is_one_row() {
     assert_hall(&Record::bare(5, 4, 1), &[0], &[1 << 4]);
-    assert_hall(&Record::bare(32, 31, 0), &[0], &[1 << 31]);
-    assert_hall(&Record::bare(32, 0, 31), &[0], &[1]);
+    assert_hall(&Record::bare(64, 63, 0), &[0], &[1 << 63]);
+    assert_hall(&Record::bare(64, 0, 63), &[0], &[1]);
     // What hangs on the server is no part of its side.
     let triangle = halls::hall(4, 3, &[(0, 1), (1, 2), (2, 0)]);
     assert_hall(&triangle, &[0], &[1]);
@@ -144,13 +144,13 @@ fn without_a_route_the_list_is_one_row() {
     assert_hall(&apart, &[0], &[1]);
 }
 
-/// Cable 63 weighs 2^63: rising order is that of unsigned numbers, and point 31 weighs 2^31.
+/// Cable 63 weighs 2^63: rising order is that of unsigned numbers, and point 63 weighs 2^63.
 #[test]
 fn the_highest_numbers() {
     let one = Record::bare(2, 1, 0).with(63, 1, 0);
     assert_hall(&one, &[1 << 63], &[2]);
-    let line = Record::bare(32, 31, 0).with(63, 31, 7).with(62, 0, 7);
-    assert_hall(&line, &[1 << 62, 1 << 63], &[1 << 31 | 1 << 7, 1 << 31]);
+    let line = Record::bare(64, 63, 0).with(63, 63, 7).with(62, 0, 7);
+    assert_hall(&line, &[1 << 62, 1 << 63], &[1 << 63 | 1 << 7, 1 << 63]);
     let double = Record::bare(3, 2, 0)
         .with(63, 2, 1)
         .with(0, 2, 1)
@@ -277,6 +277,36 @@ fn random_plans_of_few_points_and_many_cables() {
     tally.assert_only(&[0, 11, 12]);
 }
 
+/// The rows of a spread plan: the same cuts, and each side's points under their names.
+fn spread_rows(rows: &[Row], names: &[u8]) -> Vec<Row> {
+    let named = |side: Nodes| brute::members(side).fold(0, |set, node| set | 1 << names[node]);
+    rows.iter()
+        .map(|row| Row {
+            cut: row.cut,
+            side: named(row.side),
+        })
+        .collect()
+}
+
+/// Small plans spread over all 64 points, the others hanging on nothing, list the same cuts, and
+/// their sides are those of the plan under the new names.
+#[test]
+fn spread_plans_list_the_same_cuts() {
+    let mut rng = Rng::new(62);
+    let mut tally = Tally::default();
+    let mut high = 0;
+    for _ in 0..8_000 {
+        let record = plans::small(&mut rng, 12);
+        let (spread, names) = plans::spread(&mut rng, &record);
+        let rows = spread_rows(&brute::list(&record), &names);
+        assert_eq!(brute::list(&spread), rows, "{record:?}");
+        list_with_all(&mut rng, &spread, &rows, &mut tally);
+        high += usize::from(rows.iter().any(|row| row.side >> 32 != 0));
+    }
+    tally.assert_only(&[0, 11, 12]);
+    assert!(high > 5_000, "{high}");
+}
+
 /// Every way to lay 4 cables among 4 points or leave them out, for each server and room.
 #[test]
 fn all_plans_of_4_points_and_4_cables() {
@@ -305,7 +335,7 @@ fn all_plans_of_4_points_and_4_cables() {
 #[test]
 fn larger_random_plans() {
     let mut rng = Rng::new(55);
-    let (mut listed, mut longest, mut sizes) = (0, 0, [0; 33]);
+    let (mut listed, mut longest, mut sizes) = (0, 0, [0; MOST_NODES as usize + 1]);
     for round in 0..2_500 {
         let record = match round % 8 {
             0 => plans::record(&mut rng),
@@ -328,7 +358,7 @@ fn larger_random_plans() {
         sizes[useful as usize] += 1;
     }
     assert!(listed > 2_000 && longest > 1_500, "{listed} {longest}");
-    assert!(sizes[2..].iter().all(|&n| n > 2), "{sizes:?}");
+    assert!(sizes[2..].iter().all(|&n| n > 0), "{sizes:?}");
 }
 
 /// Long lists: each word of them, and the exact number of rows that they need.
@@ -341,7 +371,11 @@ fn long_lists() {
         halls::circle(16, &[1, 3]),
         halls::two_hubs(14),
         halls::circle(32, &[1]),
+        halls::circle(64, &[1]),
         halls::turned(halls::grid(5, 4)),
+        plans::spread(&mut rng, &halls::grid(4, 5)).0,
+        plans::spread(&mut rng, &halls::circle(16, &[1, 3])).0,
+        plans::spread(&mut rng, &halls::two_hubs(14)).0,
     ] {
         let rows = sides::list_by_growth(&hall, 100_000).expect("not too long a list");
         let count = rows.len();
@@ -387,6 +421,7 @@ fn assert_within(time: Duration, hall: &Record, lent: usize) -> (u8, usize, Vec<
 /// Few rows among many points: a search that enters branches without rows does not end here.
 #[test]
 fn large_halls_with_short_lists() {
+    let mut rng = Rng::new(63);
     for (hall, count) in [
         (halls::fan(22), 23),
         (halls::fan(26), 27),
@@ -395,27 +430,38 @@ fn large_halls_with_short_lists() {
         (halls::line(32, 2), 31),
         (halls::turned(halls::line(32, 1)), 31),
         (halls::circle(32, &[1]), 256),
+        (halls::line(64, 1), 63),
+        (halls::turned(halls::line(64, 1)), 63),
+        (halls::circle(64, &[1]), 32 * 32),
         // Four rows for each four, and the cables between them.
         (halls::string_of_fours(8), 8 * 4 + 7),
         (two_fans(), 31),
         (halls::turned(two_fans()), 31),
         (combs(), 31 - 15),
     ] {
-        let rows = sides::list_by_growth(&hall, 1_000).expect("a short list");
+        let (spread, names) = plans::spread(&mut rng, &hall);
+        let rows = sides::list_by_growth(&hall, 2_000).expect("a short list");
         assert_eq!(rows.len(), count, "{hall:?}");
-        let expected_cuts: Vec<u64> = rows.iter().map(|row| row.cut).collect();
-        let expected_sides: Vec<Nodes> = rows.iter().map(|row| row.side).collect();
-        for lent in [count, count + 1, 2048] {
-            let (refusal, found, cuts, sides) = assert_soon(&hall, lent);
-            assert_eq!((refusal, found), (0, count));
-            assert_eq!(cuts[..count], expected_cuts);
-            assert_eq!(sides[..count], expected_sides);
-        }
-        for lent in [0, 1, count - 1] {
-            let (refusal, found, cuts, sides) = assert_soon(&hall, lent);
-            assert_eq!((refusal, found), (12, 0));
-            assert!(cuts.iter().all(|&cut| cut == 5) && sides.iter().all(|&side| side == 6));
-        }
+        assert_short(&spread, &spread_rows(&rows, &names));
+        assert_short(&hall, &rows);
+    }
+}
+
+/// The hall is listed soon with enough rows lent, and refused soon with fewer.
+fn assert_short(hall: &Record, rows: &[Row]) {
+    let count = rows.len();
+    let expected_cuts: Vec<u64> = rows.iter().map(|row| row.cut).collect();
+    let expected_sides: Vec<Nodes> = rows.iter().map(|row| row.side).collect();
+    for lent in [count, count + 1, 2048] {
+        let (refusal, found, cuts, sides) = assert_soon(hall, lent);
+        assert_eq!((refusal, found), (0, count));
+        assert_eq!(cuts[..count], expected_cuts);
+        assert_eq!(sides[..count], expected_sides);
+    }
+    for lent in [0, 1, count - 1] {
+        let (refusal, found, cuts, sides) = assert_soon(hall, lent);
+        assert_eq!((refusal, found), (12, 0));
+        assert!(cuts.iter().all(|&cut| cut == 5) && sides.iter().all(|&side| side == 6));
     }
 }
 
@@ -437,6 +483,7 @@ fn combs() -> Record {
 /// With too few rows lent, 12 comes as soon as the rows are known not to suffice.
 #[test]
 fn halls_with_very_many_cuts_are_refused_soon() {
+    let mut rng = Rng::new(64);
     for hall in [
         halls::two_hubs(26),
         halls::two_hubs(30),
@@ -446,10 +493,12 @@ fn halls_with_very_many_cuts_are_refused_soon() {
         halls::circle(21, &[1, 2, 5]),
         halls::turned(halls::two_hubs(30)),
     ] {
-        for lent in [0, 1, 2, 30, 1000, 2048] {
-            let (refusal, found, cuts, sides) = assert_soon(&hall, lent);
-            assert_eq!((refusal, found), (12, 0), "{lent} rows: {hall:?}");
-            assert!(cuts.iter().all(|&cut| cut == 5) && sides.iter().all(|&side| side == 6));
+        for hall in [plans::spread(&mut rng, &hall).0, hall] {
+            for lent in [0, 1, 2, 30, 1000, 2048] {
+                let (refusal, found, cuts, sides) = assert_soon(&hall, lent);
+                assert_eq!((refusal, found), (12, 0), "{lent} rows: {hall:?}");
+                assert!(cuts.iter().all(|&cut| cut == 5) && sides.iter().all(|&side| side == 6));
+            }
         }
     }
 }

@@ -51,11 +51,13 @@ fn all_inputs_of_up_to_3_bytes() {
     assert_eq!(tally.total(), 1 + (1 << 8) + (1 << 16) + (1 << 24));
 
     // By hand, over lengths 0 to 3: no byte, 50 alone, 50 with a fit count, the same with 53.
-    assert_eq!(tally.of(1), 1 + 1 + 31 + 31);
+    let fit = u64::from(MOST_NODES) - 1;
+    let unfit = 256 - fit;
+    assert_eq!(tally.of(1), 1 + 1 + fit + fit);
     // The count is unfit, with no byte or one behind it.
-    assert_eq!(tally.of(4), 225 + 225 * 256);
+    assert_eq!(tally.of(4), unfit + unfit * 256);
     // The first byte is unfit, or the third.
-    assert_eq!(tally.of(2), 255 * (1 + 256 + 65536) + 31 * 255);
+    assert_eq!(tally.of(2), 255 * (1 + 256 + 65536) + fit * 255);
     tally.assert_only(&[1, 2, 4]);
 }
 
@@ -169,7 +171,7 @@ fn all_continuations_over_few_bytes() {
     }
     tally.assert_each(&[0, 1, 2, 3, 7, 8, 9, 10], 10);
 
-    let alphabet = [0x00, 0x01, 0x02, 0x20, 0x21, 0x45, 0x50, 0x53];
+    let alphabet = [0x00, 0x01, 0x02, 0x40, 0x41, 0x45, 0x50, 0x53];
     let mut tally = Tally::default();
     for length in 0..=6 {
         continuations(&[], length, &alphabet, &mut tally);

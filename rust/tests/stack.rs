@@ -1,10 +1,10 @@
 //! The stack that the calls need, held against what the header says. Each call is made on a stack of
 //! its own that was painted before: how far down the paint is gone is how much the call took.
 //!
-//! The list takes most, by the calls that grow the near side: each decides one point, so at most 31
-//! of them, all points but the room, stand above each other. A line of 32 points has as many. The
-//! sort stands on less: it splits the rows at cables on which cuts differ, and of these at most 30
-//! are independent, the points but server and room.
+//! The list takes most, in two places. The calls that grow the near side decide one point each, so at
+//! most 63 of them, all points but the room, stand above each other: a line of 64 points has as many.
+//! The sort splits the rows at cables on which cuts differ, and of these at most 62 are independent,
+//! the points but server and room, so at most 63 of its calls do: a circle of 64 has as many.
 
 use std::arch::asm;
 use std::fs;
@@ -33,7 +33,7 @@ fn stack_of<F: FnMut()>(mut call: F) -> usize {
         // SAFETY: it is the pointer that is handed over below.
         unsafe { (*call)() }
     }
-    let mut memory = vec![PAINT; 1 << 13];
+    let mut memory = vec![PAINT; 1 << 14];
     let top = memory.as_mut_ptr_range().end as usize & !15;
 
     // SAFETY: the stack grows down from an aligned end of memory that is lent to nothing else and is
@@ -131,6 +131,9 @@ fn patterns() -> Vec<Record> {
         halls::two_points(0),
         halls::two_points(64),
         halls::line(32, 1),
+        halls::line(64, 1),
+        halls::turned(halls::line(64, 1)),
+        halls::circle(64, &[1]),
         halls::line(32, 2),
         halls::turned(halls::line(32, 2)),
         halls::fan(30),
@@ -192,8 +195,11 @@ fn no_call_takes_more_than_the_header_says() {
     refusals.assert_each(&[0], 500);
     refusals.assert_each(&[12], 300);
     assert!(deepest <= most, "{deepest} bytes");
-    // The line of 32 points goes as deep as any.
-    assert_eq!(list(&halls::line(32, 1), &mut rows, ROWS), (deepest, 0));
+    // No hall goes deeper than the line and the circle of 64.
+    let [line, circle] =
+        [halls::line(64, 1), halls::circle(64, &[1])].map(|hall| list(&hall, &mut rows, ROWS));
+    assert_eq!((line.1, circle.1), (0, 0));
+    assert_eq!(deepest, line.0.max(circle.0));
 
     for cuts in [&rows.cuts[..0], &rows.cuts] {
         let stack = widths(cuts);
@@ -205,7 +211,7 @@ fn no_call_takes_more_than_the_header_says() {
 fn the_list_program_needs_no_more_than_the_header_says() {
     let kib = said_by_the_header("prints on its stack, and needs ");
     let program = root().join("target/bin/list");
-    for (hall, lines) in [(halls::line(32, 2), 32), (halls::two_hubs(11), 2049)] {
+    for (hall, lines) in [(halls::line(64, 1), 64), (halls::two_hubs(11), 2049)] {
         let plan = Path::new(env!("CARGO_TARGET_TMPDIR")).join(format!("stack-{lines}"));
         let bytes = reference::encode(&hall, reference::LONGEST_PLAN).expect("accepted");
         fs::write(&plan, bytes).expect("a file");

@@ -4,7 +4,7 @@
 use cutlist_tests::answers::{Nodes, Part};
 use cutlist_tests::halls;
 use cutlist_tests::plans;
-use cutlist_tests::record::Record;
+use cutlist_tests::record::{Record, MOST_NODES};
 use cutlist_tests::reference::FAULTS;
 use cutlist_tests::rng::Rng;
 use cutlist_tests::tally::Tally;
@@ -60,7 +60,7 @@ fn what_hangs_on_one_point_is_not_useful() {
 #[test]
 fn without_a_route_server_and_room_are_useful_and_no_cable_is() {
     assert_part(&Record::bare(5, 4, 1), 0b10010, 0);
-    assert_part(&Record::bare(32, 31, 0), 1 << 31 | 1, 0);
+    assert_part(&Record::bare(64, 63, 0), 1 << 63 | 1, 0);
     // Cycles around server and room, but nothing between them.
     let apart = halls::hall(6, 5, &[(0, 1), (1, 2), (2, 0), (3, 4), (4, 5), (5, 3)]);
     assert_part(&apart, 0b100001, 0);
@@ -177,8 +177,10 @@ fn larger_random_plans() {
     );
 }
 
+/// All points of each are useful; spread over all 64 points, none of the others is.
 #[test]
-fn patterns_of_up_to_32_points() {
+fn patterns_of_up_to_64_points() {
+    let mut rng = Rng::new(34);
     for hall in [
         halls::fan(30),
         halls::two_hubs(30),
@@ -186,14 +188,25 @@ fn patterns_of_up_to_32_points() {
         halls::circle(32, &[1, 5]),
         halls::line(32, 2),
         halls::string_of_fours(8),
+        halls::line(64, 1),
+        halls::circle(64, &[1]),
     ] {
         for hall in [halls::turned(hall.clone()), hall] {
             let part = Part {
-                nodes: Nodes::MAX,
+                nodes: Nodes::MAX >> (MOST_NODES - hall.nodes),
                 edges: hall.present,
             };
             assert_eq!(sides::relevant(&hall), part);
             assert_eq!(compare::relevant(&hall, part), 0);
+            let (spread, names) = plans::spread(&mut rng, &hall);
+            let spread_part = Part {
+                nodes: names[..hall.nodes.into()]
+                    .iter()
+                    .fold(0, |set, node| set | 1 << node),
+                edges: hall.present,
+            };
+            assert_eq!(sides::relevant(&spread), spread_part);
+            assert_eq!(compare::relevant(&spread, spread_part), 0);
             // With the room at another point, parts of some halls are not useful.
             let nearer = Record { sink: 7, ..hall };
             if nearer.source != nearer.sink {

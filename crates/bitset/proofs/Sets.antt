@@ -1,10 +1,10 @@
 -- Membership as a proposition: what it is to be a member after each operation on a set, and that this is decided.
 -- Assumes nothing.
-use mathlib.Core.Path.{_≡_, refl, sym, ap, _∙_}
+use mathlib.Core.Path.{_≡_, refl, sym, ap, subst, _∙_}
 use mathlib.Core.Bool.{false, not}
 use mathlib.Core.Logic.{_⊎_, inl, inr, ⊎-map, _↔_, Dec·not-not}
 use Prim.Native.Nat.{ℕ, suc, _%_, _^_, _<_}
-use native.Mathlib.Nat.{lt-of-not-le, eq-or-lt-of-le}
+use native.Mathlib.Nat.{lt-of-not-le, eq-or-lt-of-le, mod-lt}
 use native.Mathlib.Decide.{ℕ-discrete}
 use denote.Floats.{passes}
 use lib.Bits.{bitAnd, bitOr, or-zero-l}
@@ -101,6 +101,11 @@ pub in-mod : (w s j : ℕ) → (j ∈ (s % 2 ^ w)) ↔ ((j < w) × (j ∈ s))
 in-mod w s j =
     let both = T-and (ltb j w) (has s j) in
     rw (has-mod w s j) (λ m. let p = both .0 m in (ltb→lt j w (p .0), p .1), λ p. both .1 (lt→ltb j w (p .0), p .1))
+
+-- So a set without a member past w is below 2 ^ w.
+pub set-lt : (w s : ℕ) → ((j : ℕ) → j ∈ s → j < w) → s < 2 ^ w
+set-lt w s within =
+    subst (λ x. x < 2 ^ w) (same-set (λ j. (λ m. in-mod w s j .0 m .1, λ m. in-mod w s j .1 (within j m, m)))) (mod-lt s (pow-pos w))
 
 -- A set that is not empty has a member.
 pub empty-or-member : (s : ℕ) → (s ≡ 0) ⊎ ((k : ℕ) × (k ∈ s))

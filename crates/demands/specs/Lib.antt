@@ -1,4 +1,5 @@
--- The demands, how each call ends, and the table of the starred halls.
+-- The demands, how each call ends, what earlier plans keep, and the table of the starred halls.
 pub mod Endings
 pub mod Demands
+pub mod Kept
 pub mod Halls

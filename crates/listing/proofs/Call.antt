@@ -36,7 +36,7 @@ refused N cuts sides r e some =
     (refl, refl, refl)
 
 -- Otherwise the complete list is written onto the rows.
-completed : (N : Network) (cuts sides : List ℕ) → listRefusal N cuts sides ≡ 0
+pub completed : (N : Network) (cuts sides : List ℕ) → listRefusal N cuts sides ≡ 0
     → Answered N cuts sides (record { refusal = 0; count = length (mincuts N) }) (onto (mincuts N) cuts) (onto (sourceSides N) sides)
 unfolding listedBy cutRowsAfter sideRowsAfter
 completed N cuts sides e = rw e (refl, refl, refl)

@@ -23,7 +23,7 @@ use Rattle.network.proofs.Slots.{Accepted, accepted, accepted-none}
 none-or : {a b : Bool} → a ≡ false → b ≡ false → (a || b) ≡ false
 none-or p q i = p i || q i
 
-none-size : (most n : ℕ) → 2 ≤ n → n ≤ most → sizeFault most n ≡ 0
+pub none-size : (most n : ℕ) → 2 ≤ n → n ≤ most → sizeFault most n ≡ 0
 unfolding sizeFault
 none-size most n h k = none-when 4 (none-or (le-ltb n 2 h) (le-ltb most n k))
 

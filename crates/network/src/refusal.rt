@@ -9,7 +9,7 @@ pub const UNFIT_COMMAND: u8 = 2; // a byte that is no command fit for its place
 pub const TRAILING_BYTE: u8 = 3; // a byte after 45
 
 // By the one who surveyed the hall.
-pub const BAD_NODE_COUNT: u8 = 4; // point count not 2 to 32
+pub const BAD_NODE_COUNT: u8 = 4; // point count not 2 to 64
 
 pub const TERMINAL_OUTSIDE: u8 = 5; // server or room not below the point count
 

@@ -5,4 +5,4 @@
 use Prim.Native.Nat.{ℕ}
 
 abbrev pub nodeWidth : ℕ
-nodeWidth = 32
+nodeWidth = 64

@@ -7,9 +7,9 @@ ghost use Rattle.bitset.specs.Members.{has, size, Lowest};
 ghost use Rattle.node_set.specs.Width.{nodeWidth};
 
 // So many nodes there can be (specs/Width.antt), and the word that has a bit for each.
-pub const NODE_WIDTH: u32 = 32;
+pub const NODE_WIDTH: u32 = 64;
 
-pub type NodeWord = u32;
+pub type NodeWord = u64;
 
 pub struct NodeSet(pub NodeWord);
 
@@ -120,14 +120,14 @@ impl NodeSet {
     pub fn size(self) -> u32
         ensures { λ r. ⌜ r ≡ size nodeWidth (self .0) ⌝ }
     {
-        u32::count_ones(self.0)
+        u64::count_ones(self.0)
     }
 
     // The lowest member; the width if there is none.
     pub fn lowest(self) -> u32
         ensures { λ r. ⌜ Lowest nodeWidth (self .0) r ⌝ }
     {
-        u32::trailing_zeros(self.0)
+        u64::trailing_zeros(self.0)
     }
 
     // The set without its lowest member.

@@ -2,7 +2,9 @@
 
 use std::fmt;
 
+use crate::answers::Part;
 use crate::answers::Verdict::{Minimal, NotCut, NotMinimal};
+use crate::record::MOST_NODES;
 use crate::reference::{FAULTS, READING};
 use crate::tally::{Tally, Verdicts};
 
@@ -22,16 +24,23 @@ pub struct Counts {
     pub short_lists: u64,
     pub longer_lists: u64,
     pub most_rows: usize,
+    /// Of the longer ones those with a useful point above 31, and the most useful points.
+    pub high_points: u64,
+    pub most_points: u32,
 }
 
 impl Counts {
     /// Notes a hall with a complete list.
-    pub fn listed(&mut self, rows: usize) {
+    pub fn listed(&mut self, rows: usize, part: Part) {
         match rows {
             1 => self.short_lists += 1,
-            _ => self.longer_lists += 1,
+            _ => {
+                self.longer_lists += 1;
+                self.high_points += u64::from(part.nodes >> 32 != 0);
+            }
         }
         self.most_rows = self.most_rows.max(rows);
+        self.most_points = self.most_points.max(part.nodes.count_ones());
     }
 
     /// Every refusal of every function occurred, every verdict, and short and long lists.
@@ -53,6 +62,8 @@ impl Counts {
         assert!(self.short_lists >= 500, "{self}");
         assert!(self.longer_lists >= 5_000, "{self}");
         assert!(self.most_rows >= 2_000, "{self}");
+        assert!(self.high_points >= 4_000, "{self}");
+        assert_eq!(self.most_points, MOST_NODES.into(), "{self}");
     }
 }
 
@@ -81,11 +92,13 @@ impl fmt::Display for Counts {
         write!(
             f,
             " none ({}); judged: {not} no cut, {more} not minimal, {minimal} minimal; halls listed: \
-             {} with one row, {} with up to {}",
+             {} with one row, {} with up to {}, {} of them with a useful point above 31; up to {} useful points",
             all.of(0),
             self.short_lists,
             self.longer_lists,
-            self.most_rows
+            self.most_rows,
+            self.high_points,
+            self.most_points
         )
     }
 }

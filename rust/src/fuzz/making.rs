@@ -76,15 +76,20 @@ fn hall(rng: &mut Rng) -> Record {
     match rng.below(8) {
         0 | 1 => {
             let hall = rng.pick(&NAMED)();
-            match rng.below(3) {
+            match rng.below(4) {
                 0 => hall,
                 1 => halls::turned(hall),
-                _ => plans::renamed(rng, &hall),
+                2 => plans::renamed(rng, &hall),
+                _ => plans::spread(rng, &hall).0,
             }
         }
         2..=4 => {
             let most = rng.pick(&[8, 12, 12, 20, 64]);
-            plans::small(rng, most)
+            let small = plans::small(rng, most);
+            match rng.once_in(4) {
+                true => plans::spread(rng, &small).0,
+                false => small,
+            }
         }
         5 | 6 => plans::large(rng),
         _ => plans::record(rng),
@@ -92,7 +97,7 @@ fn hall(rng: &mut Rng) -> Record {
 }
 
 /// The paper's halls, and patterns of every size.
-const NAMED: [fn() -> Record; 27] = [
+const NAMED: [fn() -> Record; 29] = [
     halls::bridge,
     halls::bar_cable,
     halls::spur,
@@ -116,8 +121,10 @@ const NAMED: [fn() -> Record; 27] = [
     || halls::circle(9, &[1]),
     || halls::circle(32, &[1]),
     || halls::circle(32, &[1, 7]),
+    || halls::circle(64, &[1]),
     || halls::line(12, 1),
     || halls::line(32, 2),
+    || halls::line(64, 1),
     || halls::string_of_fours(3),
     || halls::string_of_fours(8),
 ];

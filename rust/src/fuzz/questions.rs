@@ -67,7 +67,7 @@ fn on_the_record(case: &Case, counts: &mut Counts) {
             .count(compare::list(record, rows, &cuts, &sides));
     }
     if !cuts.is_empty() {
-        counts.listed(cuts.len());
+        counts.listed(cuts.len(), known.part);
         widths(&cuts, counts);
     }
 }
@@ -130,8 +130,8 @@ struct Known {
 impl Known {
     /// Of a record without fault.
     fn of(record: &Record, lent: Size) -> Known {
-        // Brute force takes a moment on few points and few cables, and forever on many.
-        if record.nodes <= 7 && record.present.count_ones() <= 12 {
+        // Brute force takes a moment on few cables, and forever on many.
+        if record.present.count_ones() <= 12 {
             let part = brute::relevant(record);
             return Known {
                 part,
