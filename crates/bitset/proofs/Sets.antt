@@ -92,6 +92,19 @@ in-drop s k j = (
 pub drop-none : (s v : ℕ) → (v ∈ s → ⊥) → s ∖ 2 ^ v ≡ s
 drop-none s v off = same-set (λ k. (λ m. in-drop s v k .0 m .0, λ m. in-drop s v k .1 (m, λ e. off (rw e at m))))
 
+-- What is common to three sets is so in either order.
+pub and-assoc : (s t u : ℕ) → bitAnd (bitAnd s t) u ≡ bitAnd s (bitAnd t u)
+and-assoc s t u = same-set (λ k. (
+  λ m.
+      let p = in-and (bitAnd s t) u k .0 m in
+      let q = in-and s t k .0 (p .0) in
+      in-and s (bitAnd t u) k .1 (q .0, in-and t u k .1 (q .1, p .1)),
+  λ m.
+      let p = in-and s (bitAnd t u) k .0 m in
+      let q = in-and t u k .0 (p .1) in
+      in-and (bitAnd s t) u k .1 (in-and s t k .1 (p .0, q .0), q .1),
+))
+
 -- A member of a set below 2 ^ w is below w.
 pub member-lt : (w s k : ℕ) → s < 2 ^ w → k ∈ s → k < w
 member-lt w s k h m = lt-of-not-le (λ l. rw (has-bounded w h k l) at m)

@@ -64,15 +64,19 @@ fn past(network: Network, c: u8) -> NodeSet
     reached.with(c as u32)
 }
 
-// The relevant nodes of an accepted network.
+// The relevant nodes of an accepted network: those past every node. Of what is past the source, other nodes that are past it alone can cut
+// anything off.
 fn relevant_nodes(network: Network) -> NodeSet
     requires { ⌜ faultOf network ≡ 0 ⌝ }
     ensures { λ r. ⌜ r .0 ≡ relevantNodes network ⌝ }
 {
-    let mut nodes = NodeSet::below(network.nodes as u32);
+    let mut nodes = past(network, network.source);
+    let others = nodes.without(network.source as u32);
     let mut c: u8 = 0;
     while c < network.nodes {
-        nodes = nodes.intersection(past(network, c));
+        if others.contains(c as u32) {
+            nodes = nodes.intersection(past(network, c));
+        }
         c += 1;
     }
     nodes

@@ -1,15 +1,17 @@
 -- The relevant part as it is computed is the relevant part.
 -- Assumes a sound network.
-use mathlib.Core.Path.{_≡_, refl, sym}
+use mathlib.Core.Path.{_≡_, refl, sym, _∙_}
 use mathlib.Core.List.{List, List·Memᴰ, Memᴰ·cast}
 use mathlib.Core.Logic.{_⊎_, inl, inr, ⊎-map, ⊎-elim, _↔_, _≢_, Ne·symm}
 use Prim.Native.Nat.{ℕ, zero, suc, _^_, _≤_, _<_}
 use native.Mathlib.Nat.{not-suc-le-zero, le-of-suc-le-suc, eq-or-lt-of-le}
 use native.Mathlib.Decide.{ℕ-discrete, decLt}
 use native.Mathlib.Omega.{arith}
+use lib.Bits.{bitAnd, and-comm}
 use lib.Dec.{ltb→lt, lt→ltb}
-use Rattle.bitset.specs.Members.{insert, _∖_, _∈_}
+use Rattle.bitset.specs.Members.{insert, _∖_, _∈_, _⊆_}
 use Rattle.bitset.proofs.Members.{has-ones}
+use Rattle.bitset.proofs.Subsets.{⊆-refl, subset-and}
 use Rattle.bitset.proofs.Sets.{in-insert, in-and, in-minus, in-single, in-drop, minus-⊆}
 use Rattle.network.specs.declared.Network.{Network}
 use Rattle.network.specs.Record.{firstEnd, secondEnd, present}
@@ -22,7 +24,7 @@ use Rattle.graph.proofs.Nodes.{carried}
 use Rattle.graph.proofs.Reach.{in-reach, bounded-only}
 use Rattle.graph.proofs.EdgeSets.{joins-stored, in-edgesAt, in-edgesWithin}
 use Rattle.graph.proofs.Sound.{Sound}
-use Rattle.graph.proofs.RelevantNodes.{Escapes, stays, end-relevant, relevant-node-iff}
+use Rattle.graph.proofs.RelevantNodes.{Escapes, stays, escapes-from, end-relevant, relevant-node-iff}
 use Rattle.graph.proofs.RelevantEdges.{relevant-present, relevant-edge-iff}
 
 module _ (N : Network) (B : Bounded N) where
@@ -123,7 +125,57 @@ module _ (N : Network) (B : Bounded N) where
   nodes-lt : (p : List Hop) (u v : ℕ) → Leads N u p v → u < N .nodes → (x : ℕ) → List·Memᴰ x (nodesFrom u p) → x < N .nodes
   nodes-lt p u v h l = carried N (λ x. x < N .nodes) p u v h (λ e i x y j k. B .ends e x y j) l
 
+  -- ---- which nodes need not be left out
+
+  -- What is past every number below n is past each of them.
+  pastAll-past : (n c : ℕ) → c < n → pastAll N n ⊆ past N c
+  pastAll-past n c h v m = in-past c v .1 (in-pastAll n v .0 m .1 c h)
+
+  -- What is past the source is past any node that is not: no escape past the source meets that node.
+  past-beyond : (c : ℕ) → (c ∈ past N (N .source) → ⊥) → past N (N .source) ⊆ past N c
+  past-beyond c off v m =
+      in-past c v .1 (inr (⊎-elim
+      (λ (e : v ≡ N .source). stays N c v (inl e) (λ d. off (in-past (N .source) c .1 (inl (d ∙ e)))))
+      (λ (q : Escapes N (N .source) v). record {
+        steps = q .steps;
+        end = q .end;
+        terminal = q .terminal;
+        leads = q .leads;
+        avoids = λ n. off (in-past (N .source) c .1 (inr (escapes-from N (N .source) v c q n)));
+      })
+      (in-past (N .source) v .0 m)))
+
+  -- So the other nodes past the source are the ones to be left out, after the source itself.
+  pub past-others : (c : ℕ) → (c ∈ (past N (N .source) ∖ 2 ^ N .source) → ⊥) → past N (N .source) ⊆ past N c
+  past-others c off = go (ℕ-discrete c (N .source))
+    where
+      go : Dec (c ≡ N .source) → past N (N .source) ⊆ past N c
+      go (yes e) = rw e (⊆-refl (past N (N .source)))
+      go (no n) = past-beyond c (λ m. off (in-drop (past N (N .source)) (N .source) c .1 (m, n)))
+
 module _ (N : Network) (S : Sound N) where
+  -- What escapes past a node is below the node count, and so is what is past it.
+  escapes-lt : (c v : ℕ) → Escapes N c v → v < N .nodes
+  escapes-lt c v q =
+      let terminal : q .end < N .nodes = ⊎-elim (λ (e : q .end ≡ N .source). rw e (S .source-lt)) (λ (e : q .end ≡ N .sink). rw e (S .sink-lt)) (q .terminal) in
+      nodes-lt N (S .bounded) (back v (q .steps)) (q .end) v (leads-back N (q .steps) v (q .end) (q .leads)) terminal v
+      (end-met N (back v (q .steps)) (q .end) v (leads-back N (q .steps) v (q .end) (q .leads)))
+
+  past-lt : (c v : ℕ) → c < N .nodes → v ∈ past N c → v < N .nodes
+  past-lt c v h m = ⊎-elim (λ (e : v ≡ c). rw e h) (escapes-lt c v) (in-past N (S .bounded) c v .0 m)
+
+  -- So what is past the source is the first of what is past the source and every node before, and what is past every node the last.
+  pub past-all-first : past N (N .source) ≡ bitAnd (past N (N .source)) (pastAll N 0)
+  unfolding pastAll
+  past-all-first =
+      sym (subset-and (past N (N .source)) (pastAll N 0) .0 (λ v m.
+      in-pastAll N (S .bounded) 0 v .1 (past-lt (N .source) v (S .source-lt) m, λ c h. absurd (not-suc-le-zero h))))
+
+  pub past-all-whole : bitAnd (past N (N .source)) (pastAll N (N .nodes)) ≡ pastAll N (N .nodes)
+  past-all-whole =
+      and-comm (past N (N .source)) (pastAll N (N .nodes))
+      ∙ subset-and (pastAll N (N .nodes)) (past N (N .source)) .0 (pastAll-past N (S .bounded) (N .nodes) (N .source) (S .source-lt))
+
   -- A relevant node is below the node count.
   pub relevant-lt : (v : ℕ) → RelevantNode N v → v < N .nodes
   relevant-lt v (inl e) = rw e (S .source-lt)

@@ -3,7 +3,7 @@
 --
 --   Escapes N c v    a walk from v to source or sink that does not meet c
 use mathlib.Core.Path.{_≡_, refl, sym}
-use mathlib.Core.List.{List, [], _∷_, _++_, List·Memᴰ, List·Memᴰ·head, List·Memᴰ·tail, List·Memᴰ·cases-cons, List·Memᴰ·append-cases, List·Memᴰ·eq-of-singleton, Memᴰ·cast}
+use mathlib.Core.List.{List, [], _∷_, _++_, List·Memᴰ, List·Memᴰ·head, List·Memᴰ·tail, List·Memᴰ·cases-cons, List·Memᴰ·append-cases, List·Memᴰ·eq-of-singleton, Memᴰ·append-right, Memᴰ·cast}
 use mathlib.Core.Logic.{_⊎_, inl, inr, ⊎-swap, _↔_, _≢_, Ne·symm}
 use Prim.Native.Nat.{ℕ}
 use native.Mathlib.Decide.{ℕ-discrete}
@@ -37,6 +37,21 @@ module _ (N : Network) where
   pub stays : (c v : ℕ) → (v ≡ N .source) ⊎ (v ≡ N .sink) → c ≢ v → Escapes N c v
   unfolding Leads
   stays c v t ne = record { steps = []; end = v; terminal = t; leads = refl; avoids = λ m. ne (List·Memᴰ·eq-of-singleton m) }
+
+  -- From each node that an escape past c meets, the rest of it is an escape past c.
+  pub escapes-from : (c v x : ℕ) (q : Escapes N c v) → List·Memᴰ x (nodesFrom v (q .steps)) → Escapes N c x
+  escapes-from c v x q m =
+      let k = split N (q .steps) v (q .end) x (q .leads) m in
+      record {
+        steps = k .after;
+        end = q .end;
+        terminal = q .terminal;
+        leads = k .leads-on;
+        avoids = λ n. q .avoids (elim (List·Memᴰ·cases-cons n) [
+          | inl e ↦ Memᴰ·cast e m
+          | inr l ↦ rw (← k .whole, nodes-append v (k .before) (k .after)) (Memᴰ·append-right (nodesFrom v (k .before)) l)
+        ]);
+      }
 
   -- On a path from source over v to sink another node stands on one side of v at most.
   escapes-along : (p : List Hop) (c v : ℕ) → Leads N (N .source) p (N .sink) → Simple (N .source) p
