@@ -4,7 +4,7 @@
  * A plan has points (nodes) and cables (edges) between two points each; one point is the server
  * (source), one the room (sink). A plan crosses the border as bytes, or as a record field by field:
  *
- *   nodes    the point count, 2 to 64; points are numbered from 0
+ *   nodes    the point count, 2 to CUTLIST_MOST_NODES; points are numbered from 0
  *   source   the server
  *   sink     the room
  *   present  the set of cables present; cables have numbers 0 to 63
@@ -45,6 +45,9 @@
 #ifdef __cplusplus
 extern "C" {
 #endif
+
+/* The most points in a plan. */
+#define CUTLIST_MOST_NODES 64
 
 /* Slots for cables in a record. */
 #define CUTLIST_SLOTS 64

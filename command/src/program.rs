@@ -109,7 +109,7 @@ mod tests {
     fn a_whole_list_is_taken() {
         assert_eq!(answer(BRIDGE), Some(Answer::Listed));
         assert_eq!(answer("cuts 1\n- | 4\n"), Some(Answer::Listed));
-        assert_eq!(answer("cuts 1\n0 63 | 0 31\n"), Some(Answer::Listed));
+        assert_eq!(answer("cuts 1\n0 63 | 0 63\n"), Some(Answer::Listed));
     }
 
     #[test]

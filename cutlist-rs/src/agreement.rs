@@ -7,6 +7,7 @@ use std::str::FromStr;
 
 use crate::plan::{Verdict, LONGEST};
 use crate::refusal::Refusal;
+use crate::sets::NodeSet;
 use crate::sys;
 
 const HEADER: &str = include_str!("../../include/cutlist.h");
@@ -16,6 +17,9 @@ const REFERENCE: &str = include_str!("../../rust/src/reference.rs");
 const READER_SPECIFIED: &str = include_str!("../../crates/format/specs/Format.antt");
 const RECORD_SPECIFIED: &str = include_str!("../../crates/network/specs/Record.antt");
 const EXPORTED: &str = include_str!("../../crates/capi/src/lib.rt");
+const NODES: &str = include_str!("../../crates/node_set/src/lib.rt");
+const NODES_SPECIFIED: &str = include_str!("../../crates/node_set/specs/Width.antt");
+const NODES_TESTED: &str = include_str!("../../rust/src/record.rs");
 const LONGEST_PROVED: &str = include_str!("../../crates/format/proofs/Longest.antt");
 const DECIDING_PROVED: &str = include_str!("../../crates/format/proofs/Prefix.antt");
 
@@ -180,6 +184,28 @@ fn verdicts_agree() {
     let this = table((0..=u8::MAX).filter_map(verdict));
     assert_eq!(header, library, "header and library");
     assert_eq!(this, library, "crate and library");
+}
+
+/// The most points, a bit for each of them in every set of points, and the words of refusal 4.
+#[test]
+fn the_most_points_agree() {
+    let most = size_of_the_header("CUTLIST_MOST_NODES");
+    for (text, before, after) in [
+        (NODES, "const NODE_WIDTH: u32 = ", ";"),
+        (NODES, "type NodeWord = u", ";"),
+        (NODES_SPECIFIED, "nodeWidth = ", "\n"),
+        (NODES_TESTED, "const MOST_NODES: u8 = ", ";"),
+    ] {
+        assert_eq!(number::<usize>(between(text, before, after)), most);
+    }
+    assert_eq!(8 * size_of::<NodeSet>(), most);
+    for parameter in ["*node_set", "*sides"] {
+        let typed = format!("uint{most}_t {parameter}");
+        assert_eq!(HEADER.matches(parameter).count(), 2, "{parameter}");
+        assert_eq!(HEADER.matches(&typed).count(), 2, "{typed}");
+    }
+    let words = Refusal::BadNodeCount.to_string();
+    assert_eq!(words, format!("point count not 2 to {most}"));
 }
 
 #[test]

@@ -136,3 +136,7 @@ points-kept before narrower = record {
   part = λ N stored was. part-lt before narrower N was stored;
   lines = lines before narrower;
 }
+
+-- The limit before sixty-four points.
+pub points-32-kept : PointsKept 32
+points-32-kept = points-kept 32 (omega arith)

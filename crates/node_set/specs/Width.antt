@@ -1,7 +1,7 @@
--- How many nodes (points) there can be.
+-- How many nodes (points) a network can have.
 -- To believe.
 --
---   nodeWidth        the paper's most points of a plan, and the bits of a set of nodes
+--   nodeWidth        the most points of a plan; a set of points has a bit for each
 use Prim.Native.Nat.{ℕ}
 
 abbrev pub nodeWidth : ℕ

@@ -6,7 +6,7 @@ ghost use lib.Dec.{eqb, ltb};
 ghost use Rattle.bitset.specs.Members.{has, size, Lowest};
 ghost use Rattle.node_set.specs.Width.{nodeWidth};
 
-// So many nodes there can be (specs/Width.antt), and the word that has a bit for each.
+// The most nodes, `nodeWidth` of specs/Width.antt, and the word that has a bit for each. Rows of such words are lent for source sides.
 pub const NODE_WIDTH: u32 = 64;
 
 pub type NodeWord = u64;

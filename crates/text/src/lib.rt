@@ -14,8 +14,12 @@ ghost use Rattle.text.specs.Written.{Wrote, Printed};
 // No more rows are printed.
 pub const MAX_ROWS: usize = 2048;
 
+// No line of a row is longer: of all edges and of all nodes, each number with a space but the last, ten have one digit and the others two;
+// between them stands the bar with its spaces, and the line ends.
+const MAX_LINE: usize = (3 * 64 - 11) + 3 + (3 * NODE_WIDTH as usize - 11) + 1;
+
 // No list of so many rows is longer (proofs/Bound.antt): a page of so many bytes has room for each.
-pub const MAX_TEXT: usize = MAX_ROWS * (185 + 3 * NODE_WIDTH as usize - 11) + 29;
+pub const MAX_TEXT: usize = MAX_ROWS * MAX_LINE + 29;
 
 // Writes the text from the offset `at` on.
 fn write_text(out: &mut [u8], at: usize, text: &[u8]) -> usize
