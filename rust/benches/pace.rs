@@ -11,7 +11,6 @@ use cutlist_tests::answers::Nodes;
 use cutlist_tests::halls;
 use cutlist_tests::plans;
 use cutlist_tests::record::Record;
-use cutlist_tests::rng::Rng;
 use cutlist_tests::{ordinary, sides, sys};
 
 /// The most rows that are lent.
@@ -157,18 +156,6 @@ fn measure(name: &str, record: &Record) {
     }
 }
 
-/// A random plan with all 64 cables among so many points, every one of them on a circle.
-fn dense(nodes: u8, seed: u64) -> Record {
-    let mut rng = Rng::new(seed);
-    let mut record = halls::circle(nodes, &[1]);
-    for edge in usize::from(nodes)..64 {
-        let one = rng.below(nodes.into()) as u8;
-        let step = 1 + rng.below(usize::from(nodes) - 1) as u8;
-        record = record.with(edge, one, (one + step) % nodes);
-    }
-    plans::renamed(&mut rng, &record)
-}
-
 fn main() {
     println!(
         "{:<32} {:>6} {:>6} {:>8} {:>8} {:>5} {:>9} {:>9} {:>9} {:>6}",
@@ -200,7 +187,7 @@ fn main() {
     for (nodes, seed) in DENSE {
         measure(
             &format!("dense of {nodes}, seed {seed}"),
-            &dense(nodes, seed),
+            &plans::dense(nodes, seed),
         );
     }
     measure("grid of 4 by 8", &halls::grid(4, 8));
@@ -214,8 +201,8 @@ fn main() {
         ("ladder of 2 by 16", halls::grid(2, 16)),
         ("every pair of 11", halls::complete(11)),
         ("grid of 4 by 8", halls::grid(4, 8)),
-        ("dense of 18, seed 1", dense(18, 1)),
-        ("dense of 24, seed 1", dense(24, 1)),
+        ("dense of 18, seed 1", plans::dense(18, 1)),
+        ("dense of 24, seed 1", plans::dense(24, 1)),
         ("two hubs with 20 between", halls::two_hubs(20)),
     ] {
         measure(&format!("{name}, spread"), &halls::spread(&hall));

@@ -106,6 +106,17 @@ pub fn large(rng: &mut Rng) -> Record {
     numbered(rng, nodes, ends)
 }
 
+/// A random plan with all 64 cables among so many points, every one of them on a circle.
+pub fn dense(nodes: u8, seed: u64) -> Record {
+    let mut rng = Rng::new(seed);
+    let mut record = halls::circle(nodes, &[1]);
+    for edge in usize::from(nodes)..SLOTS {
+        let (one, other) = two_nodes(&mut rng, nodes);
+        record = record.with(edge, one, other);
+    }
+    renamed(&mut rng, &record)
+}
+
 /// The same plan under other names for its points, with the ends of some cables exchanged.
 pub fn renamed(rng: &mut Rng, record: &Record) -> Record {
     let mut names: Vec<u8> = (0..record.nodes).collect();

@@ -376,6 +376,8 @@ fn long_lists() {
         plans::spread(&mut rng, &halls::grid(4, 5)).0,
         plans::spread(&mut rng, &halls::circle(16, &[1, 3])).0,
         plans::spread(&mut rng, &halls::two_hubs(14)).0,
+        plans::dense(14, 1),
+        plans::spread(&mut rng, &plans::dense(14, 1)).0,
     ] {
         let rows = sides::list_by_growth(&hall, 100_000).expect("not too long a list");
         let count = rows.len();
@@ -433,6 +435,7 @@ fn large_halls_with_short_lists() {
         (halls::line(64, 1), 63),
         (halls::turned(halls::line(64, 1)), 63),
         (halls::circle(64, &[1]), 32 * 32),
+        (halls::grid(2, 16), 256),
         // Four rows for each four, and the cables between them.
         (halls::string_of_fours(8), 8 * 4 + 7),
         (two_fans(), 31),
@@ -503,31 +506,42 @@ fn halls_with_very_many_cuts_are_refused_soon() {
     }
 }
 
-/// A long list is not put in order by moving each row past all others.
+/// A long list is not put in order by moving each row past all others, and a list of a million rows
+/// takes no more of that when its points are spread.
 #[test]
 fn a_long_list_comes_in_time() {
     let mut rng = Rng::new(59);
     let mut cables: Vec<usize> = (0..64).collect();
     rng.shuffle(&mut cables);
-    let hubs = halls::two_hubs(17);
-    let hall = brute::members(hubs.present).fold(Record::bare(19, 0, 18), |hall, edge| {
-        hall.with(cables[edge], hubs.first[edge], hubs.second[edge])
-    });
-    let time = Duration::from_millis(500);
-    for lent in [1 << 17, 1 << 18] {
-        let (refusal, count, cuts, sides) = assert_within(time, &hall, lent);
-        assert_eq!((refusal, count), (0, 1 << 17));
-        assert!(cuts[..count].windows(2).all(|pair| pair[0] < pair[1]));
-        for (&cut, &side) in cuts[..count].iter().zip(&sides) {
-            // Each point between the hubs is cut off from the one or from the other.
-            let crossing = brute::members(hall.present)
-                .filter(|&edge| (side >> hall.first[edge] ^ side >> hall.second[edge]) & 1 == 1)
-                .fold(0, |set, edge| set | 1 << edge);
-            assert_eq!(cut, crossing);
+    let hubs = |middle| {
+        let hubs = halls::two_hubs(middle);
+        let bare = Record::bare(hubs.nodes, hubs.source, hubs.sink);
+        hubs.edges().fold(bare, |hall, edge| {
+            hall.with(cables[edge], hubs.first[edge], hubs.second[edge])
+        })
+    };
+    for (middle, hall, seconds) in [
+        (17, hubs(17), 0.5),
+        (17, halls::spread(&hubs(17)), 0.5),
+        (20, halls::spread(&hubs(20)), 4.0),
+    ] {
+        let time = Duration::from_secs_f64(seconds);
+        let rows = 1 << middle;
+        for lent in [rows, rows + rows / 2] {
+            let (refusal, count, cuts, sides) = assert_within(time, &hall, lent);
+            assert_eq!((refusal, count), (0, rows));
+            assert!(cuts[..count].windows(2).all(|pair| pair[0] < pair[1]));
+            for (&cut, &side) in cuts[..count].iter().zip(&sides) {
+                // Each point between the hubs is cut off from the one or from the other.
+                let crossing = brute::members(hall.present)
+                    .filter(|&edge| (side >> hall.first[edge] ^ side >> hall.second[edge]) & 1 == 1)
+                    .fold(0, |set, edge| set | 1 << edge);
+                assert_eq!(cut, crossing);
+            }
         }
+        let (refusal, count, ..) = assert_within(time, &hall, rows - 1);
+        assert_eq!((refusal, count), (12, 0));
     }
-    let (refusal, count, ..) = assert_within(time, &hall, (1 << 17) - 1);
-    assert_eq!((refusal, count), (12, 0));
 }
 
 #[test]
