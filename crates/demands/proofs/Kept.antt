@@ -16,9 +16,12 @@ use Rattle.bitset.proofs.MemberList.{members-past}
 use Rattle.node_set.specs.Width.{nodeWidth}
 use Rattle.network.specs.declared.Network.{Network}
 use Rattle.network.specs.Record.{_then_, Stored, sizeFault, terminalFault, slotsFault, faultUpTo, faultOf}
-use Rattle.network.proofs.Refusals.{then-none, some-then, some-when, none-when, size-none, refused-some}
+use Rattle.network.proofs.Refusals.{then-none, none-then, some-then, some-when, none-when, size-none, refused-some}
 use Rattle.network.proofs.Rules.{none-size}
-use Rattle.format.specs.Format.{at, missing, unfit, sizeRefusal, sizeStep, ifTaken, decodeUpTo, decodeOf}
+use Rattle.format.specs.declared.Decoded.{Decoded}
+use Rattle.format.specs.Format.{at, missing, unfit, sizeRefusal, sizeStep, refuse, ifTaken, decodeUpTo, decodeOf, encodeOf}
+use Rattle.format.proofs.Steps.{SizeView, size, size-view}
+use Rattle.format.proofs.Reading.{accepts, decode-plan}
 use Rattle.graph.specs.Cuts.{RelevantNode}
 use Rattle.graph.specs.Lists.{CompleteList}
 use Rattle.graph.specs.Relevant.{relevantNodes}
@@ -73,6 +76,26 @@ module _ (before : ℕ) (narrower : before ≤ nodeWidth) where
   plans : (s : List ℕ) → (decodeUpTo before s .refusal ≡ 4 → ⊥) → decodeOf s ≡ decodeUpTo before s
   unfolding decodeUpTo sizeStep
   plans s f = rw (size-refusal-kept s (λ e. f (size-refused s e)))
+
+  -- What the reader took at the earlier limit has a point count within it.
+  size-read : (s : List ℕ) → decodeUpTo before s .refusal ≡ 0 → sizeFault before (at s 1) ≡ 0
+  unfolding decodeUpTo ifTaken
+  size-read s e = go (size-view before s)
+    where
+      go : SizeView before s → sizeFault before (at s 1) ≡ 0
+      go (size n rest step p f) = ap (λ b. sizeFault before (at b 1)) p ∙ f
+      go (SizeView.refused r step l b) =
+          let number : decodeUpTo before s .refusal ≡ r = rw step (ap (λ (d : Decoded). d .refusal) (refused-some r _ (refuse r) (λ z. omega arith))) in
+          absurd (omega arith)
+
+  read : (s : List ℕ) → decodeUpTo before s .refusal ≡ 0 → Stored (decodeOf s .network) × (faultUpTo before (decodeOf s .network) ≡ 0)
+  unfolding faultUpTo encodeOf
+  read s e =
+      let ok : decodeOf s .refusal ≡ 0 = ap (λ (d : Decoded). d .refusal) (plans s (λ four. omega arith)) ∙ e in
+      let N : Network = decodeOf s .network in
+      let plan = decode-plan s N (accepts s ok) in
+      let fit : sizeFault before (N .nodes) ≡ 0 = ap (λ b. sizeFault before (at b 1)) (plan .bytes) ∙ size-read s e in
+      (plan .stored, none-then _ fit ∙ then-none (sizeFault nodeWidth (N .nodes)) _ (plan .accepted) .1)
 
   -- ---- lists
 
@@ -131,6 +154,7 @@ pub points-kept : (before : ℕ) → before ≤ nodeWidth → PointsKept before
 points-kept before narrower = record {
   faults = faults before narrower;
   plans = plans before narrower;
+  read = read before narrower;
   lists = lists before narrower;
   sides = λ N stored was. sides-lt before narrower N was stored;
   part = λ N stored was. part-lt before narrower N was stored;

@@ -22,6 +22,8 @@ pub record PointsKept (before : ℕ) : Type 0 where
   pub faults : (N : Network) → (faultUpTo before N ≡ 4 → ⊥) → faultOf N ≡ faultUpTo before N
   -- So is any other answer of the reader, the record too.
   pub plans : (s : List ℕ) → (decodeUpTo before s .refusal ≡ 4 → ⊥) → decodeOf s ≡ decodeUpTo before s
+  -- The record of a plan that was accepted is one that was accepted: what follows is said of plans in bytes too.
+  pub read : (s : List ℕ) → decodeUpTo before s .refusal ≡ 0 → Stored (decodeOf s .network) × (faultUpTo before (decodeOf s .network) ≡ 0)
   -- The list of a record that was accepted: `mincuts` and `sourceSides` name no limit.
   pub lists : (N : Network) → faultUpTo before N ≡ 0 → (cuts sides : List ℕ) → length cuts ≡ length sides → length (mincuts N) ≤ length cuts
       → (listedBy N cuts sides ≡ record { refusal = 0; count = length (mincuts N) })
