@@ -23,8 +23,9 @@
  * rows are untouched then.
  *
  * No pointer may be NULL, not even beside a length of 0, and each must be aligned as its type asks,
- * on x86-64 to 8 bytes for uint64_t and size_t. A length counts elements, not bytes, and may not be larger than the memory lent. No two pointers may lead to the same memory if
- * one of them is written through.
+ * on x86-64 to 8 bytes for uint64_t and size_t. A length counts elements, not bytes, and may not be
+ * larger than the memory lent. No two pointers may lead to the same memory if one of them is written
+ * through.
  *
  * The header is C99, or C++98, and later.
  *
@@ -62,7 +63,7 @@ extern "C" {
 #define CUTLIST_DECIDING_BYTES 265
 
 /* Bytes of stack that suffice for every call. */
-#define CUTLIST_STACK_BYTES 16384
+#define CUTLIST_STACK_BYTES 20480
 
 /* Why a call refused. Bytes are named in hexadecimal. */
 enum cutlist_refusal {

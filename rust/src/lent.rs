@@ -65,12 +65,6 @@ impl Word for u8 {
     }
 }
 
-impl Word for u32 {
-    fn guard(place: usize) -> u32 {
-        (place as u32 + 1).wrapping_mul(0x9E37_79B1)
-    }
-}
-
 impl Word for u64 {
     fn guard(place: usize) -> u64 {
         (place as u64 + 1).wrapping_mul(0x9E37_79B9_7F4A_7C15)

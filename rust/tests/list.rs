@@ -386,8 +386,8 @@ fn long_lists() {
             assert_eq!(number, if lent < count { 12 } else { 0 });
         }
         assert_eq!(list_with(&mut rng, &hall, &rows, count, count - 1), 11);
-        // So many that no plan of this size can outnumber them.
-        let ample = 1usize << (hall.nodes - 2);
+        // So many that no plan with as many useful points can outnumber them.
+        let ample = 1usize << (sides::relevant(&hall).nodes.count_ones() - 2);
         if ample <= 1 << 18 {
             assert_eq!(list_with(&mut rng, &hall, &rows, ample, ample), 0);
             list_with(&mut rng, &hall, &rows, ample - 1, ample - 1);

@@ -247,8 +247,12 @@ fn an_output_that_is_lost_is_said() {
 fn random_plans_are_printed_as_the_paper_says() {
     let mut rng = Rng::new(16);
     let mut lists = 0;
-    for _ in 0..300 {
-        let record = plans::small(&mut rng, 12);
+    for round in 0..300 {
+        let small = plans::small(&mut rng, 12);
+        let record = match round % 2 {
+            0 => small,
+            _ => plans::spread(&mut rng, &small).0,
+        };
         let plan = plans::bytes(&record);
         let text = print(&plan);
         assert_eq!(text, expected(&plan));

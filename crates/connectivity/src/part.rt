@@ -64,8 +64,8 @@ fn past(network: Network, c: u8) -> NodeSet
     reached.with(c as u32)
 }
 
-// The relevant nodes of an accepted network: those past every node. Of what is past the source, other nodes that are past it alone can cut
-// anything off.
+// The relevant nodes of an accepted network: those past every node. The source is left out first; then only the other nodes that are past it
+// can cut any of them off.
 fn relevant_nodes(network: Network) -> NodeSet
     requires { ⌜ faultOf network ≡ 0 ⌝ }
     ensures { λ r. ⌜ r .0 ≡ relevantNodes network ⌝ }

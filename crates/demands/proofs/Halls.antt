@@ -29,7 +29,7 @@ use Rattle.graph.proofs.Cuts.{cutTest-iff, mincutTest-iff}
 use Rattle.graph.proofs.Relevant.{in-relevantNodes, in-relevantEdges}
 use Rattle.listing.specs.List.{mincuts, sourceSides}
 use Rattle.demands.specs.Halls.{JudgedSet, Hall, bridge, barCable, spur, hangingTriangle, noCable, twoCables, inARow, exchanged, halls, networkOf, widthTable, same, judgedTest, hallTests, hallTest, Established}
-use Rattle.text.specs.Text.{digits, decimal, spaced, numbers, lineOf, wordLine, rowLines, listText}
+use Rattle.text.specs.Text.{digits, decimal, spaced, numbers, lineUpTo, wordLine, rowLines, listText}
 use Rattle.report.specs.Report.{listReport, reportOf}
 use Rattle.listing.proofs.Meaning.{mincuts-complete}
 
@@ -84,7 +84,7 @@ hall-right h t =
 
 -- Every hall of the table passes the test.
 halls-pass : T (every hallTest halls)
-unfolding has insert _∖_ size subsets countIf tabulate widthsOf _when_ _then_ sizeFault pairFault bare withEdge numberFault sizeRefusal terminalsRefusal edgeRefusal endRefusal sizeStep terminalsStep edgeStep ifTaken edges decodeUpTo only membersFrom addIf across roundOver rounds reachOf severed every cutTest allNeeded mincutTest chosen edgesAt edgesWithin past pastAll relevantNodes relevantEdges sourceSideOf passing mincuts digits decimal spaced numbers lineOf wordLine rowLines listText listReport reportOf bridge barCable spur hangingTriangle noCable twoCables inARow exchanged halls same judgedTest hallTests hallTest
+unfolding has insert _∖_ size subsets countIf tabulate widthsOf _when_ _then_ sizeFault pairFault bare withEdge numberFault sizeRefusal terminalsRefusal edgeRefusal endRefusal sizeStep terminalsStep edgeStep ifTaken edges decodeUpTo only membersFrom addIf across roundOver rounds reachOf severed every cutTest allNeeded mincutTest chosen edgesAt edgesWithin past pastAll relevantNodes relevantEdges sourceSideOf passing mincuts digits decimal spaced numbers lineUpTo wordLine rowLines listText listReport reportOf bridge barCable spur hangingTriangle noCable twoCables inARow exchanged halls same judgedTest hallTests hallTest
 halls-pass = tt
 
 -- So what it says of each hall is established.

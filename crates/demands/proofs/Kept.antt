@@ -1,7 +1,7 @@
 -- What earlier plans keep: of the rules that of the point count alone was widened.
 -- Assumes, where sides and useful points are measured, what the code's types say of the records.
 use mathlib.Core.Bool.{Bool, true, false, _||_}
-use mathlib.Core.List.{List, _++_}
+use mathlib.Core.List.{List}
 use mathlib.Core.Path.{_≡_, refl, sym, ap, _∙_}
 use Prim.Native.Nat.{ℕ, zero, suc, _+_, _-_, _^_, _≤_, _<_}
 use native.Mathlib.Nat.{lt-of-lt-of-le}
@@ -33,8 +33,7 @@ use Rattle.listing.specs.List.{mincuts, sourceSides, listRefusal, listedBy, cut
 use Rattle.listing.proofs.Refusals.{refusal-none}
 use Rattle.listing.proofs.Call.{completed}
 use Rattle.listing.proofs.Meaning.{call-complete}
-use Rattle.text.specs.Ascii.{bytes}
-use Rattle.text.specs.Text.{numbers, lineOf}
+use Rattle.text.specs.Text.{lineUpTo, lineOf}
 use Rattle.demands.specs.Kept.{PointsKept}
 
 -- Where a rule is given up for one that differs only where the answer was k, the row of rules differs only where its answer was k.
@@ -141,8 +140,8 @@ module _ (before : ℕ) (narrower : before ≤ nodeWidth) where
 
   -- ---- print
 
-  lines : (c side : ℕ) → side < 2 ^ before → lineOf c side ≡ numbers (members 64 c) ++ bytes " | " ++ numbers (members before side) ++ bytes "\n"
-  unfolding lineOf
+  lines : (c side : ℕ) → side < 2 ^ before → lineOf c side ≡ lineUpTo before c side
+  unfolding lineUpTo
   lines c side h =
       let wider : nodeWidth ≡ (nodeWidth - before) + before = omega arith in
       let same : members nodeWidth side ≡ members before side =

@@ -2,20 +2,19 @@
 -- To believe.
 --
 --   PointsKept before    where there were at most `before` points: of records and plans the refusal 4 alone is lifted, so what was
---                        accepted is accepted as it was; its list has the same cuts and the same sides, as numbers and in print
-use mathlib.Core.List.{List, _++_}
+--                        accepted is accepted as it was; its list has the same cuts and the same sides as numbers, and the line of
+--                        each row is the one that was printed
+use mathlib.Core.List.{List}
 use mathlib.Core.Path.{_≡_}
 use Prim.Native.Nat.{ℕ, _^_, _≤_, _<_}
 use lib.ListN.{length, getD}
 use Rattle.sequences.specs.Words.{onto}
-use Rattle.bitset.specs.Members.{members}
 use Rattle.network.specs.declared.Network.{Network}
 use Rattle.network.specs.Record.{Stored, faultUpTo, faultOf}
 use Rattle.format.specs.Format.{decodeUpTo, decodeOf}
 use Rattle.connectivity.specs.Answers.{relevantOf}
 use Rattle.listing.specs.List.{mincuts, sourceSides, listedBy, cutRowsAfter, sideRowsAfter}
-use Rattle.text.specs.Ascii.{bytes}
-use Rattle.text.specs.Text.{numbers, lineOf}
+use Rattle.text.specs.Text.{lineUpTo, lineOf}
 
 pub record PointsKept (before : ℕ) : Type 0 where
   -- Any other number of the record test, 0 among them, is the one that was given.
@@ -34,4 +33,4 @@ pub record PointsKept (before : ℕ) : Type 0 where
       → getD (sideRowsAfter N cuts sides) i 0 < 2 ^ before
   pub part : (N : Network) → Stored N → faultUpTo before N ≡ 0 → relevantOf N .nodes .0 < 2 ^ before
   -- The line of such a side is the one that was printed.
-  pub lines : (c side : ℕ) → side < 2 ^ before → lineOf c side ≡ numbers (members 64 c) ++ bytes " | " ++ numbers (members before side) ++ bytes "\n"
+  pub lines : (c side : ℕ) → side < 2 ^ before → lineOf c side ≡ lineUpTo before c side

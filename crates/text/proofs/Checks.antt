@@ -6,11 +6,11 @@ use lib.ListN.{length}
 use Rattle.bitset.specs.Members.{has, membersFrom}
 use Rattle.node_set.specs.Width.{nodeWidth}
 use Rattle.text.specs.Ascii.{bytes}
-use Rattle.text.specs.Text.{digits, decimal, spaced, numbers, lineOf, wordLine, refusalLine, maxLine}
+use Rattle.text.specs.Text.{digits, decimal, spaced, numbers, lineUpTo, lineOf, wordLine, refusalLine, maxLine}
 
 -- A cut without cables.
 pub no-cable : lineOf 0 16 ≡ bytes "- | 4\n"
-unfolding has membersFrom digits decimal spaced numbers lineOf
+unfolding has membersFrom digits decimal spaced numbers lineUpTo
 no-cable = refl
 
 -- A refusal.
@@ -20,5 +20,5 @@ refusal = refl
 
 -- The line of all edges and all nodes is as long as a line can be.
 pub longest : length (lineOf (2 ^ 64 - 1) (2 ^ nodeWidth - 1)) ≡ maxLine
-unfolding has membersFrom digits decimal spaced numbers lineOf
+unfolding has membersFrom digits decimal spaced numbers lineUpTo
 longest = refl

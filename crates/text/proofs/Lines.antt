@@ -6,11 +6,11 @@ use Prim.Native.Nat.{ℕ, _+_}
 use lib.ListN.{length, length-append}
 use Rattle.bitset.specs.Members.{members}
 use Rattle.node_set.specs.Width.{nodeWidth}
-use Rattle.text.specs.Text.{decimal, numbers, lineOf, wordLine}
+use Rattle.text.specs.Text.{decimal, numbers, lineUpTo, lineOf, wordLine}
 
 -- A row's line has the two sets, three bytes between them and one at the end.
 pub length-line : (c s : ℕ) → length (lineOf c s) ≡ length (numbers (members 64 c)) + 3 + length (numbers (members nodeWidth s)) + 1
-unfolding lineOf
+unfolding lineUpTo
 length-line c s = simp length-append
 
 -- A line of a word and a number has a byte between them and one at the end.

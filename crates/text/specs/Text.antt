@@ -6,7 +6,8 @@
 --   decimal n        the decimal digits of n, without leading zeros
 --   spaced l         each number of l in decimal, after a space
 --   numbers l        the numbers of l in decimal with single spaces between them; a hyphen if there are none
---   lineOf c s       the line of the cut c and its near side s: cables, space, bar, space, points
+--   lineUpTo most c s     the line of the cut c and its near side s, where so many points are the most: cables, space, bar, space, points
+--   lineOf c s       the same with the most that there may be
 --   wordLine word n  the line of a word, a space and the number n
 --   countLine n      the line that says how many cuts there are: the word cuts and n
 --   refusalLine n    the line that says why there is no list: the word refused and n
@@ -49,8 +50,11 @@ numbers [] = bytes "-"
 numbers (k ∷ l) = decimal k ++ spaced l
 
 -- There are at most 64 cables.
-unfoldable pub lineOf : ℕ → ℕ → List ℕ
-lineOf c s = numbers (members 64 c) ++ bytes " | " ++ numbers (members nodeWidth s) ++ bytes "\n"
+unfoldable pub lineUpTo : ℕ → ℕ → ℕ → List ℕ
+lineUpTo most c s = numbers (members 64 c) ++ bytes " | " ++ numbers (members most s) ++ bytes "\n"
+
+abbrev pub lineOf : ℕ → ℕ → List ℕ
+lineOf = lineUpTo nodeWidth
 
 -- A word, a space and a number.
 unfoldable pub wordLine : List ℕ → ℕ → List ℕ

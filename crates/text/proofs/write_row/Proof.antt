@@ -1,7 +1,7 @@
 -- `write_row` meets its contract: the edges, the bar between two spaces, the nodes and the end of the line are written
 -- one after the other. Assumes nothing.
 use native.Mathlib.Omega.{arith}
-use Rattle.text.specs.Text.{lineOf}
+use Rattle.text.specs.Text.{lineUpTo}
 use Rattle.text.proofs.Written.{wrote-length, wrote-text}
 use Rattle.text.proofs.Lines.{length-line}
 use borrow.Author.Needs.{needs}
@@ -63,7 +63,7 @@ same-length : tie.Need-same-length
 same-length c = search needs
 
 returns : tie.Need-returns
-unfolding lineOf
+unfolding lineUpTo
 returns c =
     let four = c .before .before in
     let three = nodes four in
