@@ -115,7 +115,7 @@ impl fmt::Display for EdgeError {
 impl Error for EdgeError {}
 
 impl Plan {
-    /// A plan without cables: its point count, its server and its room.
+    /// A plan without cables: its point count, 2 to 64, its server and its room.
     pub fn new(nodes: u8, source: u8, sink: u8) -> Result<Plan, Refusal> {
         Plan::tested(Record::bare(nodes, source, sink))
     }
@@ -293,6 +293,22 @@ mod tests {
         assert_eq!(plan.ends(5), Some((2, 1)));
         assert_eq!(plan.ends(63), Some((0, 1)));
         assert_eq!((plan.ends(6), plan.ends(64)), (None, None));
+    }
+
+    /// Cut k parts the points up to k from the others.
+    #[test]
+    fn a_line_of_64_points_is_listed() {
+        let bare = Plan::new(64, 0, 63).expect("accepted");
+        let line = (0..63).fold(bare, |plan, k| {
+            plan.with_edge(k, k, k + 1).expect("accepted")
+        });
+        assert_eq!(line.relevant().expect("accepted").nodes, NodeSet(u64::MAX));
+        let rows = line.mincuts(63).expect("listed");
+        assert_eq!(rows.iter().len(), 63);
+        for (k, row) in rows.iter().enumerate() {
+            assert_eq!(row.cut, EdgeSet(1 << k));
+            assert_eq!(row.side, NodeSet((1 << (k + 1)) - 1));
+        }
     }
 
     #[test]
