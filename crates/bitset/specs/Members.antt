@@ -14,8 +14,8 @@
 --   subsets w s      the subsets of the members of s below w, as numbers, rising
 --                    [computed: mem-subsets, subsets-rising (bitset/proofs/Subsets)]
 --
--- A set of points and a set of cables are both such numbers; the code keeps the two kinds apart by their
--- types, `NodeSet` and `EdgeSet`, and everything below is said once for every width.
+-- A set of points and a set of cables are both such numbers; the code keeps the two kinds apart by their types, `NodeSet` and `EdgeSet`,
+-- and everything below is said once for every width.
 use mathlib.Core.Path.{_≡_}
 use mathlib.Core.Bool.{Bool, true, false}
 use mathlib.Core.List.{List, [], _∷_, _++_, map}

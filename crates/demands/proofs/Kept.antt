@@ -3,7 +3,7 @@
 use mathlib.Core.Bool.{Bool, true, false, _||_}
 use mathlib.Core.List.{List}
 use mathlib.Core.Path.{_≡_, refl, sym, ap, _∙_}
-use Prim.Native.Nat.{ℕ, zero, suc, _+_, _-_, _^_, _≤_, _<_}
+use Prim.Native.Nat.{ℕ, _+_, _-_, _^_, _≤_, _<_}
 use native.Mathlib.Nat.{lt-of-lt-of-le}
 use native.Mathlib.Decide.{ℕ-discrete}
 use native.Mathlib.Omega.{arith}
@@ -16,7 +16,7 @@ use Rattle.bitset.proofs.MemberList.{members-past}
 use Rattle.node_set.specs.Width.{nodeWidth}
 use Rattle.network.specs.declared.Network.{Network}
 use Rattle.network.specs.Record.{_then_, Stored, sizeFault, terminalFault, slotsFault, faultUpTo, faultOf}
-use Rattle.network.proofs.Refusals.{then-none, none-then, some-then, some-when, none-when, size-none, refused-some}
+use Rattle.network.proofs.Refusals.{then-none, none-then, some-then, then-kept, some-when, none-when, size-none, refused-some}
 use Rattle.network.proofs.Rules.{none-size}
 use Rattle.format.specs.declared.Decoded.{Decoded}
 use Rattle.format.specs.Format.{at, missing, unfit, sizeRefusal, sizeStep, refuse, ifTaken, decodeUpTo, decodeOf, encodeOf}
@@ -35,12 +35,6 @@ use Rattle.listing.proofs.Call.{completed}
 use Rattle.listing.proofs.Meaning.{call-complete}
 use Rattle.text.specs.Text.{lineUpTo, lineOf}
 use Rattle.demands.specs.Kept.{PointsKept}
-
--- Where a rule is given up for one that differs only where the answer was k, the row of rules differs only where its answer was k.
-then-kept : {a b : ℕ} (k r : ℕ) → ((a ≡ k → ⊥) → b ≡ a) → ((r then a) ≡ k → ⊥) → (r then b) ≡ (r then a)
-unfolding _then_
-then-kept k zero same f = same f
-then-kept k (suc r) same f = refl
 
 module _ (before : ℕ) (narrower : before ≤ nodeWidth) where
   -- The point count: fit before, it is fit now.

@@ -9,7 +9,7 @@ use lib.ListN.{getD}
 use Rattle.sequences.specs.Distinct.{Distinct}
 use Rattle.bitset.specs.Members.{has, insert, _∖_, membersFrom}
 use Rattle.network.specs.Record.{_when_, _then_, sizeFault, pairFault, bare, withEdge}
-use Rattle.format.specs.Format.{numberFault, sizeRefusal, terminalsRefusal, edgeRefusal, endRefusal, sizeStep, terminalsStep, edgeStep, ifTaken, edges, decodeUpTo, decodeOf}
+use Rattle.format.specs.Format.{numberFault, sizeRefusal, terminalsRefusal, edgeRefusal, endRefusal, sizeStep, terminalsStep, edgeStep, ifTaken, edges, decodeUpTo}
 use Rattle.graph.specs.Paths.{Joins, Leads, edgesOf, Minpath}
 use Rattle.graph.specs.Cuts.{Mincut}
 use Rattle.graph.specs.Lists.{CompleteList}

@@ -27,6 +27,12 @@ unfolding _then_
 some-then zero s p = absurd (omega arith)
 some-then (suc r) s p = refl
 
+-- Where the later of two rules gives way to one that answers otherwise only where k was answered, the two do so only where they gave k.
+pub then-kept : {a b : ℕ} (k r : ℕ) → ((a ≡ k → ⊥) → b ≡ a) → ((r then a) ≡ k → ⊥) → (r then b) ≡ (r then a)
+unfolding _then_
+then-kept k zero same f = same f
+then-kept k (suc r) same f = refl
+
 -- A rule finds no fault exactly if it does not apply.
 pub when-none : (r : ℕ) (b : Bool) → 0 < r → (r when b) ≡ 0 → b ≡ false
 unfolding _when_

@@ -2,7 +2,7 @@
 -- Assumes nothing.
 use mathlib.Core.Path.{sym, _∙_}
 use native.Mathlib.Omega.{arith}
-use Rattle.network.specs.Record.{faultUpTo, faultOf, Stored}
+use Rattle.network.specs.Record.{faultUpTo, Stored}
 use Rattle.network.proofs.Refusals.{none-then, some-then}
 use Rattle.network.proofs.Rules.{fault-means}
 use borrow.Author.Needs.{needs}
