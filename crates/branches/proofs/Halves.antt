@@ -15,11 +15,10 @@ use Rattle.graph.specs.Paths.{Joins}
 use Rattle.graph.specs.Cuts.{RelevantEdge, RelevantNode}
 use Rattle.graph.specs.SourceSides.{SourceSide}
 use Rattle.graph.specs.Relevant.{relevantNodes}
-use Rattle.graph.proofs.Walks.{joins-sym}
 use Rattle.graph.proofs.Nodes.{carried}
 use Rattle.graph.proofs.Reach.{in-round}
 use Rattle.graph.proofs.Sound.{Sound}
-use Rattle.graph.proofs.RelevantNodes.{end-relevant}
+use Rattle.graph.proofs.RelevantEdges.{relevant-edge-iff}
 use Rattle.graph.proofs.Relevant.{in-relevantNodes}
 use Rattle.graph.proofs.Correspondence.{side-reach}
 use Rattle.branches.specs.declared.Branch.{Branch}
@@ -86,7 +85,7 @@ module _ (N : Network) (S : Sound N) (b : Branch) where
         go (yes k) d f = inl k
         go (no n) (yes k) f = inr (inl k)
         go (no n) (no m) (yes k) = inr (inr k)
-        go (no n) (no m) (no l) = absurd (none y beside (o .grown .undecided y .1 (part-joins N S e x y .0 j .2, n, m, l)))
+        go (no n) (no m) (no l) = absurd (none y beside (o .grown .undecided y .1 (part-joins N S e x y .0 j .3, n, m, l)))
 
     -- Then no edge of the relevant part leads out of the side and what the sink reaches.
     side-or-rest : (e x y : ℕ) → Joins (relevantNetwork N) e x y
@@ -104,7 +103,7 @@ module _ (N : Network) (S : Sound N) (b : Branch) where
             let all : ℕ = relevantNodes N in
             let p = part-joins N S e x y .0 j in
             inr (rw (o .grown .rest) (reachIn-over N (S .bounded) (all ∖ b .side .0) (N .sink) (sink-beyond N S b (o .grown)) e x y (p .0)
-            (in-minus all (b .side .0) y .1 (p .2, n)) (rw (o .grown .rest) at i)))
+            (in-minus all (b .side .0) y .1 (p .3, n)) (rw (o .grown .rest) at i)))
 
     -- So every relevant node is in one of the two.
     all-decided : (v : ℕ) → RelevantNode N v → (v ∈ b .side .0) ⊎ (v ∈ b .rest .0)
@@ -114,10 +113,12 @@ module _ (N : Network) (S : Sound N) (b : Branch) where
         carried N (λ x. (x ∈ b .side .0) ⊎ (x ∈ b .rest .0)) (m .steps) (N .source) (N .sink) (m .leads)
         (λ e k x y j.
         let on : RelevantEdge N e = (r, (m, rw (m .members) at k)) in
+        let ends = relevant-edge-iff N e x y j .0 on in
         side-or-rest e x y (part-joins N S e x y .1 (
           j,
-          in-relevantNodes N S x .1 (end-relevant N e x y on j),
-          in-relevantNodes N S y .1 (end-relevant N e y x on (joins-sym N e x y j)),
+          ends .0,
+          in-relevantNodes N S x .1 (ends .1 .0),
+          in-relevantNodes N S y .1 (ends .1 .1),
         )))
         (inl (o .grown .source)) v i
 
@@ -139,9 +140,12 @@ module _ (N : Network) (S : Sound N) (b : Branch) where
     leaf-within t w v m =
         let r = side-reach N S t .0 (w .side) in
         reachIn-induct N (S .bounded) t (N .source) (w .side .source) (λ x. x ∈ b .side .0) (o .grown .source)
-        (λ e x y j i k. elim (beside-decided e x y (part-joins N S e x y .1 (j, o .grown .relevant x k, r .0 y i)) k) [
-          | inl l ↦ l
-          | inr d ↦ absurd (elim d [ inl l ↦ w .avoids y i l | inr q ↦ w .side .sink (rw q at i) ])
+        (λ e x y j i k. elim (ℕ-discrete x y) [
+          | yes q ↦ rw q at k
+          | no differ ↦ elim (beside-decided e x y (part-joins N S e x y .1 (j, differ, o .grown .relevant x k, r .0 y i)) k) [
+            | inl l ↦ l
+            | inr d ↦ absurd (elim d [ inl l ↦ w .avoids y i l | inr q ↦ w .side .sink (rw q at i) ])
+          ]
         ]) v (r .3 v m)
 
     -- Without a candidate, an open branch has one source side, its side.

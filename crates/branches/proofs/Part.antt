@@ -2,7 +2,7 @@
 -- Assumes a sound network.
 use mathlib.Core.Path.{_≡_, refl, sym, ap, ap₂, _∙_}
 use mathlib.Core.Bool.{Bool, true, false, xor, _&&_, _||_}
-use mathlib.Core.Logic.{inl, inr, _↔_}
+use mathlib.Core.Logic.{inl, inr, _↔_, _≢_}
 use Prim.Native.Nat.{ℕ, _^_}
 use lib.Bits.{bitOr, bitXor}
 use lib.Dec.{T, eqb, ltb, ltb→lt, lt→ltb}
@@ -17,7 +17,7 @@ use Rattle.graph.specs.Paths.{Joins}
 use Rattle.graph.specs.Cuts.{only}
 use Rattle.graph.specs.Reach.{round, reachOf, Bounded}
 use Rattle.graph.specs.Relevant.{chosen, edgesAt, edgesWithin, reachIn, relevantNodes, relevantEdges, boundaryOf}
-use Rattle.graph.proofs.Walks.{joins-sym, joins-ends}
+use Rattle.graph.proofs.Walks.{joins-sym, joins-other, joins-ends}
 use Rattle.graph.proofs.Reach.{in-round, round-mono, bounded-only}
 use Rattle.graph.proofs.EdgeSets.{in-chosen, joins-stored, in-edgesWithin}
 use Rattle.graph.proofs.Sound.{Sound}
@@ -33,19 +33,23 @@ module _ (N : Network) (S : Sound N) where
   pub part-bounded : Bounded (relevantNetwork N)
   part-bounded = bounded-only N (S .bounded) (relevantEdges N) part-present
 
-  -- The edges of the relevant part are those that join relevant nodes.
-  pub part-joins : (e x y : ℕ) → Joins (relevantNetwork N) e x y ↔ (Joins N e x y × (x ∈ relevantNodes N) × (y ∈ relevantNodes N))
+  -- The edges of the relevant part are those that join two different relevant nodes.
+  pub part-joins : (e x y : ℕ) → Joins (relevantNetwork N) e x y ↔ (Joins N e x y × (x ≢ y) × (x ∈ relevantNodes N) × (y ∈ relevantNodes N))
   unfolding relevantEdges Joins only
   part-joins e x y =
       let within = in-edgesWithin N (S .bounded) (relevantNodes N) e in (
         λ j.
             let w = within .0 (j .0) in
             let here : Joins N e x y = (w .0, j .1) in
-            (here, w .1 x y here, w .1 y x (joins-sym N e x y here)),
+            let ends = w .1 x y here in
+            (here, ends .0, ends .1, w .1 y x (joins-sym N e x y here) .1),
         λ k. (
           within .1 (
             k .0 .0,
-            λ a b j. elim (joins-ends N e x y a b (k .0) j) [ inl q ↦ rw q (k .1) | inr q ↦ rw q (k .2) ],
+            λ a b j. elim (joins-ends N e x y a b (k .0) j) [
+              | inl q ↦ (λ r. k .1 (sym q ∙ r ∙ joins-other N e x b y (rw q at j) (k .0)), rw q (k .2))
+              | inr q ↦ (λ r. k .1 (sym (sym q ∙ r ∙ joins-other N e y b x (rw q at j) (joins-sym N e x y (k .0)))), rw q (k .3))
+            ],
           ),
           k .0 .1,
         ),
@@ -62,7 +66,7 @@ module _ (N : Network) (S : Sound N) where
         λ m. let w = there .0 m in here .1 (all .0 (w .0) .0, λ x y j. w .1 x y (w .0, j .1)),
         λ m.
             let w = here .0 m in
-            there .1 (all .1 (w .0, λ x y j. sub x (w .1 x y j)), λ x y j. w .1 x y (w .0, j .1)),
+            there .1 (all .1 (w .0, λ x y j. let ends = w .1 x y j in (ends .0, sub x (ends .1))), λ x y j. w .1 x y (w .0, j .1)),
       ))
 
   -- Among relevant nodes the same is reached in it.
@@ -127,6 +131,13 @@ same-where true a b same = same tt
 same-where false a b same = refl
 
 module _ (N : Network) (S : Sound N) where
+  -- The relevant part has no loop.
+  part-loopless : (e : ℕ) → e ∈ relevantEdges N → firstEnd N e ≢ secondEnd N e
+  unfolding relevantEdges
+  part-loopless e m =
+      let w = in-edgesWithin N (S .bounded) (relevantNodes N) e .0 m in
+      w .1 (firstEnd N e) (secondEnd N e) (joins-stored N e (w .0)) .0
+
   -- With v the edges at v change: those that crossed do so no more, and the others now do.
   pub boundary-insert : (s v : ℕ) → (v ∈ s → ⊥) → boundaryOf N (insert s v) ≡ bitXor (boundaryOf N s) (edgesAt (relevantNetwork N) v)
   unfolding boundaryOf edgesAt only
@@ -140,7 +151,7 @@ module _ (N : Network) (S : Sound N) where
       let away : (x : ℕ) → T (eqb x v) → T (has s x) → ⊥ = λ x p i. out (rw (T-eqb x v .0 p) at i) in
       let toggles : k ∈ relevantEdges N → new ≡ xor old at =
       λ m. rw (has-insert s v a, has-insert s v b) (toggled (eqb a v) (eqb b v) (has s a) (has s b) (away a) (away b)
-      (λ p q. S .loopless k v (rw (T-eqb a v .0 p, T-eqb b v .0 q) at (joins-stored N k (part-present N S k m))))) in
+      (λ p q. part-loopless k m (T-eqb a v .0 p ∙ sym (T-eqb b v .0 q)))) in
       has-chosen (λ j. has (relevantEdges N) j && xor (has (insert s v) (firstEnd N j)) (has (insert s v) (secondEnd N j))) 64 k
       ∙ ap (λ (t : Bool). ltb k 64 && t) (same-where r new (xor old at) toggles)
       ∙ sym (

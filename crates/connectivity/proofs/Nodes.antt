@@ -1,44 +1,42 @@
 -- The edges within a set of nodes, and the nodes past one node, as the code finds them.
 -- Assumes nothing of a network but what is said.
 --
---   Within N u e v   the edge e, as v, has both ends in u
+--   Within N u e v   the edge e, as v, joins two different nodes of u
 use mathlib.Core.Path.{_≡_, refl, ap, _∙_}
 use mathlib.Core.Bool.{not, _&&_, _||_}
 use mathlib.Core.Logic.{_⊎_, inl, inr, _↔_}
 use Prim.Native.Nat.{ℕ, _-_, _%_, _^_, _<_}
 use native.Mathlib.Omega.{arith}
-use lib.Dec.{T, eqb, ltb, lt→ltb}
+use lib.Dec.{T, eqb, ltb}
 use Rattle.bitset.specs.Members.{has, _⊆_, insert, _∖_, _∈_}
-use Rattle.bitset.proofs.Members.{has-ones}
 use Rattle.bitset.proofs.Subsets.{⊆-antisym}
 use Rattle.sequences.proofs.Tests.{T-and}
-use Rattle.bitset.proofs.Sets.{in-minus, in-drop, minus-⊆, member-lt, in-mod}
+use Rattle.bitset.proofs.Sets.{member-lt, in-mod}
 use Rattle.bitset.proofs.Results.{single-power, below-ones, with-member, without-minus}
 use Rattle.node_set.specs.Width.{nodeWidth}
 use Rattle.network.specs.declared.Network.{Network}
 use Rattle.network.specs.Record.{hasEdge, firstEnd, secondEnd, present}
 use Rattle.graph.specs.Cuts.{only}
-use Rattle.graph.specs.Reach.{addIf, reachOf, Bounded}
-use Rattle.graph.specs.Relevant.{edgesAt, edgesWithin, past}
-use Rattle.graph.proofs.Walks.{joins-sym}
+use Rattle.graph.specs.Reach.{addIf, reachOf}
+use Rattle.graph.specs.Relevant.{twoIn, edgesWithin, past}
 use Rattle.graph.proofs.Reach.{in-addIf}
-use Rattle.graph.proofs.EdgeSets.{in-chosen, in-edgesAt, in-edgesWithin}
+use Rattle.graph.proofs.EdgeSets.{in-chosen, in-edgesWithin}
 use Rattle.graph.proofs.Sound.{Sound}
 
 -- ---- the edges within a set of nodes
 
--- The edge e, as v, has both ends in u.
+-- The edge e, as v, joins two different nodes of u.
 abbrev pub Within : Network → ℕ → ℕ → ℕ → Type 0
-Within N u e v = T (has u (firstEnd N e) && has u (secondEnd N e)) × (v ≡ e)
+Within N u e v = T (twoIn u (firstEnd N e) (secondEnd N e)) × (v ≡ e)
 
 module _ (N : Network) (u : ℕ) where
   -- An edge within u is added, and no other.
   pub in-kept : (k t : ℕ) → k < 64 → t < 2 ^ 64
-      → (v : ℕ) → (v ∈ (addIf (has u (firstEnd N k) && has u (secondEnd N k)) t k % 2 ^ 64)) ↔ ((v ∈ t) ⊎ Within N u k v)
+      → (v : ℕ) → (v ∈ (addIf (twoIn u (firstEnd N k) (secondEnd N k)) t k % 2 ^ 64)) ↔ ((v ∈ t) ⊎ Within N u k v)
   in-kept k t h small v =
-      let both = has u (firstEnd N k) && has u (secondEnd N k) in
-      let word = in-mod 64 (addIf both t k) v in
-      let added = in-addIf both t k v in (
+      let two = twoIn u (firstEnd N k) (secondEnd N k) in
+      let word = in-mod 64 (addIf two t k) v in
+      let added = in-addIf two t k v in (
         λ m. added .0 (word .0 m .1),
         λ c. word .1 (elim c [ inl i ↦ member-lt 64 t v small i | inr w ↦ rw (w .1) h ], added .1 c),
       )
@@ -48,10 +46,10 @@ module _ (N : Network) (u : ℕ) where
       → ((v : ℕ) → (v ∈ t) ↔ ((v ∈ base) ⊎ ((e : ℕ) × ((e ∈ present N) × Within N u e v)))) → t ≡ edgesWithin N u
   unfolding edgesWithin
   kept-all base t small none members =
-      let test = in-chosen (λ k. hasEdge N k && (has u (firstEnd N k) && has u (secondEnd N k))) 64 in
-      let both : (e : ℕ) → T (hasEdge N e && (has u (firstEnd N e) && has u (secondEnd N e)))
-      ↔ (T (hasEdge N e) × T (has u (firstEnd N e) && has u (secondEnd N e))) =
-      λ e. T-and (hasEdge N e) (has u (firstEnd N e) && has u (secondEnd N e)) in
+      let test = in-chosen (λ k. hasEdge N k && twoIn u (firstEnd N k) (secondEnd N k)) 64 in
+      let both : (e : ℕ) → T (hasEdge N e && twoIn u (firstEnd N e) (secondEnd N e))
+      ↔ (T (hasEdge N e) × T (twoIn u (firstEnd N e) (secondEnd N e))) =
+      λ e. T-and (hasEdge N e) (twoIn u (firstEnd N e) (secondEnd N e)) in
       ⊆-antisym t (edgesWithin N u)
       (λ v m. elim (members v .0 m) [
         | inl i ↦ absurd (none v i)
@@ -60,25 +58,6 @@ module _ (N : Network) (u : ℕ) where
       (λ v m. let p = both v .0 (test v .0 m .1) in members v .1 (inr (v, (p .0, (p .1, refl)))))
 
 -- ---- past a node
-
--- The edges within all other nodes are those that are not at c.
-pub others-edges : (N : Network) → Bounded N → (c : ℕ) → edgesWithin N ((2 ^ N .nodes - 1) ∖ 2 ^ c) ≡ present N ∖ edgesAt N c
-others-edges N B c =
-    let others : ℕ = (2 ^ N .nodes - 1) ∖ 2 ^ c in
-    let within = in-edgesWithin N B others in
-    let at = in-edgesAt N B c in
-    ⊆-antisym (edgesWithin N others) (present N ∖ edgesAt N c)
-    (λ e m.
-    let w = within e .0 m in
-    in-minus (present N) (edgesAt N c) e .1
-    (w .0, λ i. let j = at e .0 i in in-drop (2 ^ N .nodes - 1) c c .0 (w .1 c (j .0) (j .1)) .1 refl))
-    (λ e m.
-    let p = in-minus (present N) (edgesAt N c) e .0 m in
-    within e .1 (
-      p .0,
-      λ x y j. in-drop (2 ^ N .nodes - 1) c x .1
-          (rw (has-ones (N .nodes) x) (lt→ltb x (N .nodes) (B .ends e y x (joins-sym N e x y j))), λ q. p .1 (at e .1 (y, rw q at j))),
-    ))
 
 module _ (N : Network) (S : Sound N) (c : ℕ) (h : c < N .nodes) (all others edges source terminals start reached r : ℕ)
     (is-all : (j : ℕ) → has all j ≡ ltb j (N .nodes) && ltb j nodeWidth)
@@ -89,12 +68,11 @@ module _ (N : Network) (S : Sound N) (c : ℕ) (h : c < N .nodes) (all others ed
     (is-start : (j : ℕ) → has start j ≡ has terminals j && not (eqb j c))
     (is-reached : edges ⊆ present N → reached ≡ reachOf (only N edges) start)
     (is-r : (j : ℕ) → has r j ≡ has reached j || (eqb j c && ltb c nodeWidth)) where
-  -- The spread is over the edges that are not at c.
-  past-edges : edges ≡ present N ∖ edgesAt N c
+  -- The spread is over the edges within the other nodes than c.
+  past-edges : edges ≡ edgesWithin N ((2 ^ N .nodes - 1) ∖ 2 ^ c)
   past-edges =
       is-edges
       ∙ ap (edgesWithin N) (without-minus all c others is-others ∙ ap (λ x. x ∖ 2 ^ c) (below-ones nodeWidth (N .nodes) all (S .small) is-all))
-      ∙ others-edges N (S .bounded) c
 
   -- It starts at the terminals that are not c.
   past-start : start ≡ insert (2 ^ N .source) (N .sink) ∖ 2 ^ c
@@ -108,5 +86,5 @@ module _ (N : Network) (S : Sound N) (c : ℕ) (h : c < N .nodes) (all others ed
   pub past-made : r ≡ past N c
   unfolding past
   past-made =
-      let fits = is-reached (rw past-edges (minus-⊆ (present N) (edgesAt N c))) in
+      let fits = is-reached (rw is-edges (λ e m. in-edgesWithin N (S .bounded) others e .0 m .0)) in
       with-member nodeWidth reached c r (omega (arith, S .small)) is-r ∙ ap (λ x. insert x c) (rw (← past-edges, ← past-start) fits)

@@ -5,18 +5,19 @@ use edge_set::EdgeSet;
 use network::Network;
 use node_set::NodeSet;
 ghost use mathlib.Core.Path.{_≡_};
-ghost use mathlib.Core.Bool.{_&&_};
 ghost use Prim.Native.Nat.{_%_, _^_, _<_};
-ghost use Rattle.bitset.specs.Members.{has};
 ghost use Rattle.network.specs.Record.{faultOf};
 ghost use Rattle.graph.specs.Reach.{addIf};
-ghost use Rattle.graph.specs.Relevant.{edgesWithin, past, relevantNodes};
+ghost use Rattle.graph.specs.Relevant.{twoIn, edgesWithin, past, relevantNodes};
 ghost use Rattle.connectivity.specs.Answers.{relevantOf, PartMeans};
 
-// Whether both nodes are in the set.
-fn has_both(nodes: NodeSet, first: u8, second: u8) -> bool
-    ensures { λ r. ⌜ r ≡ has (nodes .0) first && has (nodes .0) second ⌝ }
+// Whether the two nodes are different members of the set.
+fn two_in(nodes: NodeSet, first: u8, second: u8) -> bool
+    ensures { λ r. ⌜ r ≡ twoIn (nodes .0) first second ⌝ }
 {
+    if first == second {
+        return false;
+    }
     if nodes.contains(first as u32) {
         nodes.contains(second as u32)
     } else {
@@ -31,7 +32,7 @@ fn keep_if(kept: bool, edges: EdgeSet, edge: u32) -> EdgeSet
     if kept { edges.with(edge) } else { edges }
 }
 
-// The present edges with both ends in the set.
+// The present edges that join two different nodes of the set; so no loop, which joins a node to itself.
 fn edges_within(network: Network, nodes: NodeSet) -> EdgeSet
     ensures { λ r. ⌜ r .0 ≡ edgesWithin network (nodes .0) ⌝ }
 {
@@ -43,13 +44,13 @@ fn edges_within(network: Network, nodes: NodeSet) -> EdgeSet
             return within;
         }
         let at = k as usize;
-        let kept = has_both(nodes, network.first[at], network.second[at]);
+        let kept = two_in(nodes, network.first[at], network.second[at]);
         within = keep_if(kept, within, k);
         left = left.without_lowest();
     }
 }
 
-// The node c, and what source and sink, whichever is not c, reach without the edges at c.
+// The node c, and what source and sink, whichever is not c, reach by walks over other nodes than c.
 fn past(network: Network, c: u8) -> NodeSet
     requires { ⌜ (faultOf network ≡ 0) × (c < network .nodes) ⌝ }
     ensures { λ r. ⌜ r .0 ≡ past network c ⌝ }

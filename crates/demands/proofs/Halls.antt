@@ -22,7 +22,7 @@ use Rattle.widths.specs.Widths.{tabulate, widthsOf}
 use Rattle.graph.specs.Cuts.{only, Cut, Mincut}
 use Rattle.graph.specs.Reach.{addIf, across, roundOver, rounds, reachOf}
 use Rattle.graph.specs.CutTests.{severed, cutTest, allNeeded, mincutTest}
-use Rattle.graph.specs.Relevant.{chosen, edgesAt, edgesWithin, past, pastAll, relevantNodes, relevantEdges, sourceSideOf}
+use Rattle.graph.specs.Relevant.{chosen, twoIn, edgesWithin, past, pastAll, relevantNodes, relevantEdges, sourceSideOf}
 use Rattle.graph.proofs.Sound.{Sound, accepted-sound}
 use Rattle.graph.proofs.Reach.{in-reach-single}
 use Rattle.graph.proofs.Cuts.{cutTest-iff, mincutTest-iff}
@@ -84,7 +84,7 @@ hall-right h t =
 
 -- Every hall of the table passes the test.
 halls-pass : T (every hallTest halls)
-unfolding has insert _∖_ size subsets countIf tabulate widthsOf _when_ _then_ sizeFault pairFault bare withEdge numberFault sizeRefusal terminalsRefusal edgeRefusal endRefusal sizeStep terminalsStep edgeStep ifTaken edges decodeUpTo only membersFrom addIf across roundOver rounds reachOf severed every cutTest allNeeded mincutTest chosen edgesAt edgesWithin past pastAll relevantNodes relevantEdges sourceSideOf passing mincuts digits decimal spaced numbers lineUpTo wordLine rowLines listText listReport reportOf bridge barCable spur hangingTriangle noCable twoCables inARow exchanged halls same judgedTest hallTests hallTest
+unfolding has insert _∖_ size subsets countIf tabulate widthsOf _when_ _then_ sizeFault pairFault bare withEdge numberFault sizeRefusal terminalsRefusal edgeRefusal endRefusal sizeStep terminalsStep edgeStep ifTaken edges decodeUpTo only membersFrom addIf across roundOver rounds reachOf severed every cutTest allNeeded mincutTest chosen twoIn edgesWithin past pastAll relevantNodes relevantEdges sourceSideOf passing mincuts digits decimal spaced numbers lineUpTo wordLine rowLines listText listReport reportOf bridge barCable spur hangingTriangle noCable twoCables inARow exchanged halls same judgedTest hallTests hallTest
 halls-pass = tt
 
 -- So what it says of each hall is established.

@@ -1,23 +1,23 @@
 -- Sets of edges: those chosen by a test, as the edges at a node and those within a set of nodes, and what is reached over a set.
 -- Assumes that the edges have numbers below 64 and ends below the node count.
 use mathlib.Core.Path.{refl}
-use mathlib.Core.Bool.{Bool, _&&_, _||_}
+use mathlib.Core.Bool.{Bool, not, _&&_, _||_}
 use mathlib.Core.List.{List}
-use mathlib.Core.Logic.{inl, inr, _↔_}
+use mathlib.Core.Logic.{inl, inr, _↔_, _≢_, Ne·symm}
 use Prim.Native.Nat.{ℕ, zero, suc, _^_, _<_}
 use native.Mathlib.Nat.{not-suc-le-zero, le-of-suc-le-suc, eq-or-lt-of-le}
 use native.Mathlib.Omega.{arith}
 use lib.Dec.{T, eqb}
 use Rattle.bitset.specs.Members.{has, _⊆_, _∈_}
 use Rattle.bitset.proofs.Members.{has-zero}
-use Rattle.sequences.proofs.Tests.{T-and, T-or, T-eqb}
+use Rattle.sequences.proofs.Tests.{T-and, T-or, T-not, T-eqb}
 use Rattle.bitset.proofs.Sets.{member-lt}
 use Rattle.network.specs.declared.Network.{Network}
 use Rattle.network.specs.Record.{hasEdge, firstEnd, secondEnd, present}
 use Rattle.graph.specs.Paths.{Joins, Hop, Leads, edgesOf}
 use Rattle.graph.specs.Cuts.{only}
 use Rattle.graph.specs.Reach.{reachOf, Bounded}
-use Rattle.graph.specs.Relevant.{chosen, edgesAt, edgesWithin}
+use Rattle.graph.specs.Relevant.{chosen, edgesAt, twoIn, edgesWithin}
 use Rattle.graph.proofs.Walks.{leads-within}
 use Rattle.graph.proofs.Reach.{in-addIf, bounded-only, in-reach-single}
 
@@ -35,6 +35,17 @@ in-chosen f (suc n) k = (
     | inr l ↦ inl (in-chosen f n k .1 (l, c .1))
   ]),
 )
+
+-- The test of two different members is right.
+pub in-twoIn : (u a b : ℕ) → T (twoIn u a b) ↔ ((a ≢ b) × (a ∈ u) × (b ∈ u))
+unfolding twoIn
+in-twoIn u a b =
+    let differ = T-not (eqb a b) in
+    let outer = T-and (not (eqb a b)) (has u a && has u b) in
+    let inner = T-and (has u a) (has u b) in (
+      λ t. let both = inner .0 (outer .0 t .1) in (λ e. differ .0 (outer .0 t .0) (T-eqb a b .1 e), both .0, both .1),
+      λ k. outer .1 (differ .1 (λ t. k .0 (T-eqb a b .0 t)), inner .1 (k .1, k .2)),
+    )
 
 -- A present edge joins its stored ends.
 pub joins-stored : (N : Network) (e : ℕ) → e ∈ present N → Joins N e (firstEnd N e) (secondEnd N e)
@@ -70,22 +81,28 @@ module _ (N : Network) (B : Bounded N) where
             ),
       )
 
-  -- The edges within u are the present edges that join nodes of u.
-  pub in-edgesWithin : (u e : ℕ) → (e ∈ edgesWithin N u) ↔ ((e ∈ present N) × ((x y : ℕ) → Joins N e x y → x ∈ u))
+  -- The edges within u are the present edges that join two different nodes of u.
+  pub in-edgesWithin : (u e : ℕ) → (e ∈ edgesWithin N u) ↔ ((e ∈ present N) × ((x y : ℕ) → Joins N e x y → (x ≢ y) × (x ∈ u)))
   unfolding edgesWithin Joins
   in-edgesWithin u e =
       let a : ℕ = firstEnd N e in
       let b : ℕ = secondEnd N e in
-      let test = in-chosen (λ k. hasEdge N k && (has u (firstEnd N k) && has u (secondEnd N k))) 64 e in (
+      let two = in-twoIn u a b in
+      let test = in-chosen (λ k. hasEdge N k && twoIn u (firstEnd N k) (secondEnd N k)) 64 e in (
         λ m.
-            let t = T-and (hasEdge N e) (has u a && has u b) .0 (test .0 m .1) in
-            let ends = T-and (has u a) (has u b) .0 (t .1) in
-            (t .0, λ x y j. elim (j .1) [ inl q ↦ rw (← q .0) (ends .0) | inr q ↦ rw (← q .1) (ends .1) ]),
+            let t = T-and (hasEdge N e) (twoIn u a b) .0 (test .0 m .1) in
+            let ends = two .0 (t .1) in (
+              t .0,
+              λ x y j. elim (j .1) [
+                | inl q ↦ (rw (q .0, q .1) at (ends .0), rw (← q .0) (ends .1))
+                | inr q ↦ (rw (q .0, q .1) at (Ne·symm (ends .0)), rw (← q .1) (ends .2))
+              ],
+            ),
         λ w.
+            let there = w .1 a b (w .0, inl (refl, refl)) in
             test .1 (
               edge-lt e (w .0),
-              T-and (hasEdge N e) (has u a && has u b) .1
-                  (w .0, T-and (has u a) (has u b) .1 (w .1 a b (w .0, inl (refl, refl)), w .1 b a (w .0, inr (refl, refl)))),
+              T-and (hasEdge N e) (twoIn u a b) .1 (w .0, two .1 (there .0, there .1, w .1 b a (w .0, inr (refl, refl)) .1)),
             ),
       )
 

@@ -3,7 +3,7 @@
 use mathlib.Core.Path.{_≡_, refl, sym, _∙_}
 use mathlib.Core.List.{List, List·Memᴰ, Memᴰ·cast}
 use mathlib.Core.Logic.{_⊎_, inl, inr, ⊎-map, ⊎-elim, _↔_, _≢_, Ne·symm}
-use Prim.Native.Nat.{ℕ, zero, suc, _^_, _≤_, _<_}
+use Prim.Native.Nat.{ℕ, zero, suc, _-_, _^_, _≤_, _<_}
 use native.Mathlib.Nat.{not-suc-le-zero, le-of-suc-le-suc, eq-or-lt-of-le}
 use native.Mathlib.Decide.{ℕ-discrete, decLt}
 use native.Mathlib.Omega.{arith}
@@ -12,43 +12,39 @@ use lib.Dec.{ltb→lt, lt→ltb}
 use Rattle.bitset.specs.Members.{insert, _∖_, _∈_, _⊆_}
 use Rattle.bitset.proofs.Members.{has-ones}
 use Rattle.bitset.proofs.Subsets.{⊆-refl, subset-and}
-use Rattle.bitset.proofs.Sets.{in-insert, in-and, in-minus, in-single, in-drop, minus-⊆}
+use Rattle.bitset.proofs.Sets.{in-insert, in-and, in-single, in-drop}
 use Rattle.network.specs.declared.Network.{Network}
-use Rattle.network.specs.Record.{firstEnd, secondEnd, present}
+use Rattle.network.specs.Record.{firstEnd, secondEnd}
 use Rattle.graph.specs.Paths.{Hop, Leads, nodesFrom}
-use Rattle.graph.specs.Cuts.{without, RelevantEdge, RelevantNode}
-use Rattle.graph.specs.Reach.{reachOf, Bounded}
-use Rattle.graph.specs.Relevant.{edgesAt, past, pastAll, relevantNodes, relevantEdges}
-use Rattle.graph.proofs.Walks.{joins-sym, end-met, ends-met, back, leads-back, nodes-back, edges-present, leads-within}
+use Rattle.graph.specs.Cuts.{only, RelevantEdge, RelevantNode}
+use Rattle.graph.specs.Reach.{reachOf}
+use Rattle.graph.specs.Relevant.{edgesWithin, past, pastAll, relevantNodes, relevantEdges}
+use Rattle.graph.proofs.Walks.{joins-sym, end-met, back, leads-back, nodes-back}
 use Rattle.graph.proofs.Nodes.{carried}
-use Rattle.graph.proofs.Reach.{in-reach, bounded-only}
-use Rattle.graph.proofs.EdgeSets.{joins-stored, in-edgesAt, in-edgesWithin}
+use Rattle.graph.proofs.EdgeSets.{joins-stored, in-edgesWithin}
 use Rattle.graph.proofs.Sound.{Sound}
-use Rattle.graph.proofs.RelevantNodes.{Escapes, stays, escapes-from, end-relevant, relevant-node-iff}
+use Rattle.graph.proofs.Inside.{in-reach-within}
+use Rattle.graph.proofs.RelevantNodes.{Escapes, stays, escapes-from, relevant-node-iff}
 use Rattle.graph.proofs.RelevantEdges.{relevant-present, relevant-edge-iff}
 
-module _ (N : Network) (B : Bounded N) where
+module _ (N : Network) (S : Sound N) where
   -- ---- past a node
 
-  -- The walks without the edges at c from another node are the walks that avoid c.
-  without-node : (c : ℕ) (p : List Hop) (u v : ℕ) → c ≢ u
-      → Leads (without N (edgesAt N c)) u p v ↔ (Leads N u p v × (List·Memᴰ c (nodesFrom u p) → ⊥))
-  without-node c p u v ne =
-      let h : ℕ = present N ∖ edgesAt N c in
-      let within = leads-within N h (minus-⊆ (present N) (edgesAt N c)) p u v in (
-        λ w.
-            let k = within .0 w in (
-              k .0,
-              λ m. carried N (λ x. c ≢ x) p u v (k .0)
-                  (λ e i x y j a q. in-minus (present N) (edgesAt N c) e .0 (k .1 e i) .1
-                  (in-edgesAt N B c e .1 (x, rw (← q) at (joins-sym N e x y j)))) ne c m refl,
-            ),
-        λ k.
-            within .1 (
-              k .0,
-              λ e i. in-minus (present N) (edgesAt N c) e .1
-                  (edges-present N p u v (k .0) e i, λ m. let j = in-edgesAt N B c e .0 m in k .1 (ends-met N p u v e c (j .0) (k .0) i (j .1))),
-            ),
+  -- A terminal is below the node count.
+  terminal-lt : (v : ℕ) → (v ≡ N .source) ⊎ (v ≡ N .sink) → v < N .nodes
+  terminal-lt v (inl e) = rw e (S .source-lt)
+  terminal-lt v (inr e) = rw e (S .sink-lt)
+
+  -- A walk from a node below the node count meets no other number.
+  nodes-lt : (p : List Hop) (u v : ℕ) → Leads N u p v → u < N .nodes → (x : ℕ) → List·Memᴰ x (nodesFrom u p) → x < N .nodes
+  nodes-lt p u v h l = carried N (λ x. x < N .nodes) p u v h (λ e i x y j k. S .bounded .ends e x y j) l
+
+  -- The other nodes than c.
+  in-others : (c x : ℕ) → (x ∈ ((2 ^ N .nodes - 1) ∖ 2 ^ c)) ↔ ((x < N .nodes) × (x ≡ c → ⊥))
+  in-others c x =
+      let drop = in-drop (2 ^ N .nodes - 1) c x in (
+        λ m. let d = drop .0 m in (ltb→lt x (N .nodes) (rw (has-ones (N .nodes) x) at (d .0)), d .1),
+        λ k. drop .1 (rw (has-ones (N .nodes) x) (lt→ltb x (N .nodes) (k .0)), k .1),
       )
 
   -- Source and sink, whichever is not c.
@@ -68,36 +64,40 @@ module _ (N : Network) (B : Bounded N) where
   in-past : (c v : ℕ) → (v ∈ past N c) ↔ ((v ≡ c) ⊎ Escapes N c v)
   unfolding past
   in-past c v =
-      let M : Network = without N (edgesAt N c) in
+      let others : ℕ = (2 ^ N .nodes - 1) ∖ 2 ^ c in
       let start : ℕ = insert (2 ^ N .source) (N .sink) ∖ 2 ^ c in
-      let reach = in-reach M (bounded-only N B (present N ∖ edgesAt N c) (minus-⊆ (present N) (edgesAt N c))) start v in (
-        λ m. elim (in-insert (reachOf M start) c v .0 m) [
+      let reached : ℕ = reachOf (only N (edgesWithin N others)) start in
+      let inside : start ⊆ others = λ u m. let t = in-terminals c u .0 m in in-others c u .1 (terminal-lt u (t .0), t .1) in
+      let reach = in-reach-within N (S .bounded) others start inside v in (
+        λ m. elim (in-insert reached c v .0 m) [
           | inl i ↦
-              let w = reach .0 i in
-              let t = in-terminals c (w .0) .0 (w .1 .0) in
-              let k = without-node c (w .1 .1 .0) (w .0) v (Ne·symm (t .1)) .0 (w .1 .1 .1) in
+              let (h, (t, p)) = reach .0 i in
               inr (record {
-                steps = back (w .0) (w .1 .1 .0);
-                end = w .0;
-                terminal = t .0;
-                leads = leads-back N (w .1 .1 .0) (w .0) v (k .0);
-                avoids = λ j. k .1 (nodes-back N (w .1 .1 .0) (w .0) v c (k .0) .0 j);
+                steps = back h (p .steps);
+                end = h;
+                terminal = in-terminals c h .0 t .0;
+                leads = leads-back N (p .steps) h v (p .leads);
+                avoids = λ j. in-others c c .0 (p .stays c (nodes-back N (p .steps) h v c (p .leads) .0 j)) .1 refl;
               })
           | inr e ↦ inl e
         ],
-        λ k. in-insert (reachOf M start) c v .1 (elim k [
+        λ k. in-insert reached c v .1 (elim k [
           | inl e ↦ inr e
           | inr q ↦
               let other : q .end ≡ c → ⊥ = λ e. q .avoids (Memᴰ·cast (sym e) (end-met N (q .steps) v (q .end) (q .leads))) in
+              let come = leads-back N (q .steps) v (q .end) (q .leads) in
               inl (reach .1 (
                 q .end,
                 (
                   in-terminals c (q .end) .1 (q .terminal, other),
-                  (
-                    back v (q .steps),
-                    without-node c (back v (q .steps)) (q .end) v (Ne·symm other) .1
-                        (leads-back N (q .steps) v (q .end) (q .leads), λ j. q .avoids (nodes-back N (q .steps) v (q .end) c (q .leads) .0 j)),
-                  ),
+                  record {
+                    steps = back v (q .steps);
+                    leads = come;
+                    stays = λ x m. in-others c x .1 (
+                      nodes-lt (back v (q .steps)) (q .end) v come (terminal-lt (q .end) (q .terminal)) x m,
+                      λ e. q .avoids (Memᴰ·cast (sym e) (nodes-back N (q .steps) v (q .end) x (q .leads) .0 m)),
+                    );
+                  },
                 ),
               ))
         ]),
@@ -118,12 +118,6 @@ module _ (N : Network) (B : Bounded N) where
         in-and (pastAll N n) (past N n) v .1
         (in-pastAll n v .1 (k .0, λ c h. k .1 c (omega arith)), in-past n v .1 (k .1 n (omega arith))),
   )
-
-  -- ---- the relevant nodes
-
-  -- A walk from a node below the node count meets no other number.
-  nodes-lt : (p : List Hop) (u v : ℕ) → Leads N u p v → u < N .nodes → (x : ℕ) → List·Memᴰ x (nodesFrom u p) → x < N .nodes
-  nodes-lt p u v h l = carried N (λ x. x < N .nodes) p u v h (λ e i x y j k. B .ends e x y j) l
 
   -- ---- which nodes need not be left out
 
@@ -153,34 +147,32 @@ module _ (N : Network) (B : Bounded N) where
       go (yes e) = rw e (⊆-refl (past N (N .source)))
       go (no n) = past-beyond c (λ m. off (in-drop (past N (N .source)) (N .source) c .1 (m, n)))
 
-module _ (N : Network) (S : Sound N) where
   -- What escapes past a node is below the node count, and so is what is past it.
   escapes-lt : (c v : ℕ) → Escapes N c v → v < N .nodes
   escapes-lt c v q =
-      let terminal : q .end < N .nodes = ⊎-elim (λ (e : q .end ≡ N .source). rw e (S .source-lt)) (λ (e : q .end ≡ N .sink). rw e (S .sink-lt)) (q .terminal) in
-      nodes-lt N (S .bounded) (back v (q .steps)) (q .end) v (leads-back N (q .steps) v (q .end) (q .leads)) terminal v
-      (end-met N (back v (q .steps)) (q .end) v (leads-back N (q .steps) v (q .end) (q .leads)))
+      let come = leads-back N (q .steps) v (q .end) (q .leads) in
+      nodes-lt (back v (q .steps)) (q .end) v come (terminal-lt (q .end) (q .terminal)) v (end-met N (back v (q .steps)) (q .end) v come)
 
   past-lt : (c v : ℕ) → c < N .nodes → v ∈ past N c → v < N .nodes
-  past-lt c v h m = ⊎-elim (λ (e : v ≡ c). rw e h) (escapes-lt c v) (in-past N (S .bounded) c v .0 m)
+  past-lt c v h m = ⊎-elim (λ (e : v ≡ c). rw e h) (escapes-lt c v) (in-past c v .0 m)
 
   -- So what is past the source is the first of what is past the source and every node before, and what is past every node the last.
   pub past-all-first : past N (N .source) ≡ bitAnd (past N (N .source)) (pastAll N 0)
   unfolding pastAll
   past-all-first =
       sym (subset-and (past N (N .source)) (pastAll N 0) .0 (λ v m.
-      in-pastAll N (S .bounded) 0 v .1 (past-lt (N .source) v (S .source-lt) m, λ c h. absurd (not-suc-le-zero h))))
+      in-pastAll 0 v .1 (past-lt (N .source) v (S .source-lt) m, λ c h. absurd (not-suc-le-zero h))))
 
   pub past-all-whole : bitAnd (past N (N .source)) (pastAll N (N .nodes)) ≡ pastAll N (N .nodes)
   past-all-whole =
       and-comm (past N (N .source)) (pastAll N (N .nodes))
-      ∙ subset-and (pastAll N (N .nodes)) (past N (N .source)) .0 (pastAll-past N (S .bounded) (N .nodes) (N .source) (S .source-lt))
+      ∙ subset-and (pastAll N (N .nodes)) (past N (N .source)) .0 (pastAll-past (N .nodes) (N .source) (S .source-lt))
 
   -- A relevant node is below the node count.
   pub relevant-lt : (v : ℕ) → RelevantNode N v → v < N .nodes
-  relevant-lt v (inl e) = rw e (S .source-lt)
-  relevant-lt v (inr (inl e)) = rw e (S .sink-lt)
-  relevant-lt v (inr (inr (r, (m, i)))) = nodes-lt N (S .bounded) (m .steps) (N .source) (N .sink) (m .leads) (S .source-lt) v i
+  relevant-lt v (inl e) = terminal-lt v (inl e)
+  relevant-lt v (inr (inl e)) = terminal-lt v (inr e)
+  relevant-lt v (inr (inr (r, (m, i)))) = nodes-lt (m .steps) (N .source) (N .sink) (m .leads) (S .source-lt) v i
 
   -- What escapes past every other node escapes past any other number.
   escapes-all : (v : ℕ) → v < N .nodes → ((c : ℕ) → c < N .nodes → (v ≡ c) ⊎ Escapes N c v)
@@ -194,7 +186,7 @@ module _ (N : Network) (S : Sound N) where
         end = q .end;
         terminal = q .terminal;
         leads = q .leads;
-        avoids = λ m. let lt = nodes-lt N (S .bounded) (q .steps) v (q .end) (q .leads) l c m in omega arith;
+        avoids = λ m. let lt = nodes-lt (q .steps) v (q .end) (q .leads) l c m in omega arith;
       }
 
       go : Dec (c < N .nodes) → Escapes N c v
@@ -205,8 +197,8 @@ module _ (N : Network) (S : Sound N) where
   pub in-relevantNodes : (v : ℕ) → (v ∈ relevantNodes N) ↔ RelevantNode N v
   unfolding relevantNodes
   in-relevantNodes v = (
-    λ m. let k = in-pastAll N (S .bounded) (N .nodes) v .0 m in relevant-node-iff N v .1 (escapes-all v (k .0) (k .1)),
-    λ r. in-pastAll N (S .bounded) (N .nodes) v .1 (relevant-lt v r, λ c h. go c (ℕ-discrete v c) (relevant-node-iff N v .0 r c)),
+    λ m. let k = in-pastAll (N .nodes) v .0 m in relevant-node-iff N v .1 (escapes-all v (k .0) (k .1)),
+    λ r. in-pastAll (N .nodes) v .1 (relevant-lt v r, λ c h. go c (ℕ-discrete v c) (relevant-node-iff N v .0 r c)),
   )
     where
       go : (c : ℕ) → Dec (v ≡ c) → (c ≢ v → Escapes N c v) → (v ≡ c) ⊎ Escapes N c v
@@ -225,8 +217,9 @@ module _ (N : Network) (S : Sound N) where
         λ m.
             let w = within .0 m in
             let j = joins-stored N e (w .0) in
+            let here = w .1 a b j in
             relevant-edge-iff N e a b j .1
-            (λ q. S .loopless e b (rw q at j), (in-relevantNodes a .0 (w .1 a b j), in-relevantNodes b .0 (w .1 b a (joins-sym N e a b j)))),
+            (here .0, (in-relevantNodes a .0 (here .1), in-relevantNodes b .0 (w .1 b a (joins-sym N e a b j) .1))),
         λ r.
-            within .1 (relevant-present N e r, λ x y j. in-relevantNodes x .1 (end-relevant N e x y r j)),
+            within .1 (relevant-present N e r, λ x y j. let k = relevant-edge-iff N e x y j .0 r in (k .0, in-relevantNodes x .1 (k .1 .0))),
       )

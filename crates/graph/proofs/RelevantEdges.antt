@@ -13,26 +13,13 @@ use Rattle.graph.specs.Cuts.{RelevantEdge, RelevantNode}
 use Rattle.graph.proofs.Walks.{edges-nil, edges-cons, joins-sym, joins-ends, ends-met, edges-present}
 use Rattle.graph.proofs.EdgeSets.{joins-stored}
 use Rattle.graph.proofs.Minpaths.{minpath-present}
+use Rattle.graph.proofs.Loops.{no-loop}
 use Rattle.graph.proofs.RelevantNodes.{end-relevant, relevant-escapes, edge-to-escape}
 
 module _ (N : Network) where
   -- A relevant edge is present.
   pub relevant-present : (e : ℕ) → RelevantEdge N e → e ∈ present N
   relevant-present e (r, (m, i)) = minpath-present N r m e i
-
-  -- A loop, an edge with both ends at one node, is on no simple path.
-  no-loop : (p : List Hop) (u v e x : ℕ) → Leads N u p v → Simple u p → e ∈ edgesOf p → Joins N e x x → ⊥
-  unfolding Leads Distinct
-  no-loop [] u v e x h simple m j = edges-nil e m
-  no-loop (s ∷ p) u v e x h simple m j =
-      elim (edges-cons s p e .0 m) [
-        | inl i ↦ no-loop p (s .to) v e x (h .1) (simple .1) i j
-        | inr q ↦
-            let k : Joins N e u (s .to) = rw q (h .0) in
-            let a : s .to ≡ x = ⊎-elim (λ c. c) (λ c. c) (joins-ends N e x x (s .to) u j (joins-sym N e u (s .to) k)) in
-            let b : u ≡ x = ⊎-elim (λ c. c) (λ c. c) (joins-ends N e x x u (s .to) j k) in
-            simple .0 (List·Memᴰ·head (b ∙ sym a))
-      ]
 
   -- An edge from source to sink is a minpath.
   direct : (e : ℕ) → Joins N e (N .source) (N .sink) → N .source ≢ N .sink → RelevantEdge N e
@@ -68,7 +55,7 @@ module _ (N : Network) where
   relevant-edge-iff e u v j = (
     λ r.
         let m = r .1 .0 in (
-          λ q. no-loop (m .steps) (N .source) (N .sink) e v (m .leads) (m .simple) (rw (m .members) (r .1 .1)) (rw q at j),
+          λ q. no-loop N (m .steps) (N .source) (N .sink) e v (m .leads) (m .simple) (rw (m .members) (r .1 .1)) (rw q at j),
           (end-relevant N e u v r j, end-relevant N e v u r (joins-sym N e u v j)),
         ),
     λ k. between-relevant e u v j (k .0) (k .1 .0) (k .1 .1),
@@ -82,6 +69,6 @@ module _ (N : Network) where
       let b : ℕ = secondEnd N e in
       let j : Joins N e a b = joins-stored N e (edges-present N p u v h e m) in
       relevant-edge-iff e a b j .1 (
-        λ q. no-loop p u v e b h simple m (rw q at j),
+        λ q. no-loop N p u v e b h simple m (rw q at j),
         (on a (ends-met N p u v e a b h m j), on b (ends-met N p u v e b a h m (joins-sym N e a b j))),
       )

@@ -3,22 +3,23 @@
 --
 --   chosen f n           the set of the numbers below n that pass the test f  [computed: in-chosen (graph/proofs/EdgeSets)]
 --   edgesAt N c          the present edges with an end at c  [computed: in-edgesAt (graph/proofs/EdgeSets)]
---   edgesWithin N u      the present edges with both ends in u  [computed: in-edgesWithin (graph/proofs/EdgeSets)]
+--   twoIn u a b          whether a and b are two different members of u
+--   edgesWithin N u      the present edges that join two different nodes of u  [computed: in-edgesWithin (graph/proofs/EdgeSets)]
 --   reachIn N u h        what h reaches by walks that stay inside u
---   past N c             c, and what source and sink, whichever is not c, reach without the edges at c
+--   past N c             c, and what source and sink, whichever is not c, reach by walks over other nodes than c
 --   pastAll N n          the nodes of N that are in past N c for each c below n
 --   relevantNodes N      the relevant nodes  [computed: in-relevantNodes (graph/proofs/Relevant)]
 --   relevantEdges N      the relevant edges: those within the relevant nodes  [computed: in-relevantEdges (graph/proofs/Relevant)]
 --   sourceSideOf N c     the source side of c  [computed: in-sourceSideOf (graph/proofs/Correspondence)]
 --   boundaryOf N s       the relevant edges with exactly one end in s  [computed: in-boundaryOf (graph/proofs/Correspondence)]
-use mathlib.Core.Bool.{Bool, xor, _&&_, _||_}
+use mathlib.Core.Bool.{Bool, not, xor, _&&_, _||_}
 use Prim.Native.Nat.{ℕ, zero, suc, _-_, _^_}
 use lib.Bits.{bitAnd}
 use lib.Dec.{eqb}
 use Rattle.bitset.specs.Members.{has, insert, _∖_}
 use Rattle.network.specs.declared.Network.{Network}
 use Rattle.network.specs.Record.{hasEdge, firstEnd, secondEnd}
-use Rattle.graph.specs.Cuts.{only, without}
+use Rattle.graph.specs.Cuts.{only}
 use Rattle.graph.specs.Reach.{addIf, reachOf}
 
 unfoldable pub chosen : (ℕ → Bool) → ℕ → ℕ
@@ -28,14 +29,20 @@ chosen f (suc n) = addIf (f n) (chosen f n) n
 unfoldable pub edgesAt : Network → ℕ → ℕ
 edgesAt N c = chosen (λ k. hasEdge N k && (eqb (firstEnd N k) c || eqb (secondEnd N k) c)) 64
 
+unfoldable pub twoIn : ℕ → ℕ → ℕ → Bool
+twoIn u a b = not (eqb a b) && (has u a && has u b)
+
+-- A loop, an edge with both ends at one node, is not among them.
 unfoldable pub edgesWithin : Network → ℕ → ℕ
-edgesWithin N u = chosen (λ k. hasEdge N k && (has u (firstEnd N k) && has u (secondEnd N k))) 64
+edgesWithin N u = chosen (λ k. hasEdge N k && twoIn u (firstEnd N k) (secondEnd N k)) 64
 
 unfoldable pub reachIn : Network → ℕ → ℕ → ℕ
 reachIn N u h = reachOf (only N (edgesWithin N u)) (2 ^ h)
 
 unfoldable pub past : Network → ℕ → ℕ
-past N c = insert (reachOf (without N (edgesAt N c)) (insert (2 ^ N .source) (N .sink) ∖ 2 ^ c)) c
+past N c =
+    let others = (2 ^ N .nodes - 1) ∖ 2 ^ c in
+    insert (reachOf (only N (edgesWithin N others)) (insert (2 ^ N .source) (N .sink) ∖ 2 ^ c)) c
 
 unfoldable pub pastAll : Network → ℕ → ℕ
 pastAll N zero = 2 ^ N .nodes - 1

@@ -44,14 +44,14 @@ returns c =
 cast-at : tie.Need-cast-at Inv-loop μ-loop
 cast-at c = search needs
 
-element-copy-out-has-both : tie.Need-element-copy-out-has-both Inv-loop μ-loop
-element-copy-out-has-both c = search needs
+element-copy-out-two-in : tie.Need-element-copy-out-two-in Inv-loop μ-loop
+element-copy-out-two-in c = search needs
 
-element-copy-out-has-both-2 : tie.Need-element-copy-out-has-both-2 Inv-loop μ-loop
-element-copy-out-has-both-2 c = search needs
+element-copy-out-two-in-2 : tie.Need-element-copy-out-two-in-2 Inv-loop μ-loop
+element-copy-out-two-in-2 c = search needs
 
-has-both-requires : tie.Need-has-both-requires Inv-loop μ-loop
-has-both-requires c κs = search needs
+two-in-requires : tie.Need-two-in-requires Inv-loop μ-loop
+two-in-requires c κs = search needs
 
 keep-if-requires : tie.Need-keep-if-requires Inv-loop μ-loop
 keep-if-requires c κs = search needs
@@ -83,7 +83,7 @@ loop-again c =
     record {
       word = search needs;
       gathered = gathered-next _ _ (present (a .t1)) (l .left .0) k _ (l .within .0) _ (less c)
-          (rw (c .before .keep-if .ensures, c .before .before .has-both .ensures) kept) (l .inv .gathered);
+          (rw (c .before .keep-if .ensures, c .before .before .two-in .ensures) kept) (l .inv .gathered);
     }
 
 pub edges-within-spec : {M : Type 1} → statement M
@@ -97,9 +97,9 @@ edges-within-spec =
     lowest-requires
     returns
     cast-at
-    element-copy-out-has-both
-    element-copy-out-has-both-2
-    has-both-requires
+    element-copy-out-two-in
+    element-copy-out-two-in-2
+    two-in-requires
     keep-if-requires
     without-lowest-requires
     loop-less

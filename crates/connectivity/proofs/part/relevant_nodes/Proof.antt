@@ -31,7 +31,7 @@ past-next N c nodes r e f = f ∙ ap (λ x. bitAnd x (past N c)) e ∙ and-assoc
 past-kept : (N : Network) → Sound N → (c nodes : ℕ) → nodes ≡ pastBefore N c → (c ∈ (past N (N .source) ∖ 2 ^ N .source) → ⊥)
     → bitAnd nodes (past N c) ≡ nodes
 past-kept N S c nodes e off =
-    subset-and nodes (past N c) .0 (λ v m. past-others N (S .bounded) c off v (in-and (past N (N .source)) (pastAll N c) v .0 (rw e at m) .0))
+    subset-and nodes (past N c) .0 (λ v m. past-others N S c off v (in-and (past N (N .source)) (pastAll N c) v .0 (rw e at m) .0))
 
 -- What holds at each turn: c is a node, or past the last, and the nodes are those past the source and every node before.
 record Turn (network : Network) (nodes c : ℕ) : Type 0 where
