@@ -2,7 +2,8 @@
  * Proved cut lists for a cabled hall: the functions of the static library libcapi.a.
  *
  * A plan has points (nodes) and cables (edges) between two points each; one point is the server
- * (source), one the room (sink). A plan crosses the border as bytes, or as a record field by field:
+ * (source), one the room (sink). Both ends of a cable may be one point: such a loop lies on no route
+ * and in no minimal cut. A plan crosses the border as bytes, or as a record field by field:
  *
  *   nodes    the point count, 2 to CUTLIST_MOST_NODES; points are numbered from 0
  *   source   the server
@@ -65,7 +66,7 @@ extern "C" {
 /* Bytes of stack that suffice for every call. */
 #define CUTLIST_STACK_BYTES 20480
 
-/* Why a call refused. Bytes are named in hexadecimal. */
+/* Why a call refused. Numbers have gaps. Bytes are named in hexadecimal. */
 enum cutlist_refusal {
     CUTLIST_ACCEPTED = 0,
 
@@ -81,7 +82,6 @@ enum cutlist_refusal {
     CUTLIST_EDGE_NUMBER_TOO_HIGH = 7,   /* cable number above 63 */
     CUTLIST_EDGE_NUMBER_NOT_RISING = 8, /* cable number not above the one before */
     CUTLIST_END_OUTSIDE = 9,            /* a cable end not below the point count */
-    CUTLIST_SAME_ENDS = 10,             /* both ends of a cable at one point */
 
     /* By the program that calls. */
     CUTLIST_ROWS_DIFFER = 11,           /* cut rows and side rows differ in number */
@@ -100,7 +100,7 @@ enum cutlist_verdict {
 };
 
 /*
- * Reads a plan: refusals 1 to 10.
+ * Reads a plan: refusals 1 to 9.
  *
  *   plan, plan_length  the bytes; none past the last is looked at
  *   nodes              out: the point count
@@ -121,7 +121,7 @@ uint8_t cutlist_decode(
     uint8_t first[CUTLIST_SLOTS],
     uint8_t second[CUTLIST_SLOTS]);
 
-/* Tests a record, and gives the number of its first fault: 4, 5, 6, then slot by slot 9, 10 or 13. */
+/* Tests a record, and gives the number of its first fault: 4, 5, 6, then slot by slot 9 or 13. */
 uint8_t cutlist_fault(
     uint8_t nodes,
     uint8_t source,

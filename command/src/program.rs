@@ -121,6 +121,7 @@ mod tests {
         }
         assert!(answer("refused 1\n").is_some());
         assert_eq!(answer("refused 0\n"), None);
+        assert_eq!(answer("refused 10\n"), None);
         assert_eq!(answer("refused 99\n"), None);
     }
 

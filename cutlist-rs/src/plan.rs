@@ -67,8 +67,8 @@ impl fmt::Display for Verdict {
 pub enum EdgeFault {
     /// The plan has a cable of this number already.
     Taken,
-    /// A plan with this cable would be refused: [`Refusal::EdgeNumberTooHigh`],
-    /// [`Refusal::EndOutside`] or [`Refusal::SameEnds`].
+    /// A plan with this cable would be refused: [`Refusal::EdgeNumberTooHigh`] or
+    /// [`Refusal::EndOutside`].
     Refused(Refusal),
 }
 
@@ -120,8 +120,9 @@ impl Plan {
         Plan::tested(Record::bare(nodes, source, sink))
     }
 
-    /// The same plan with one more cable. Cables may be added in any order. If this one does not
-    /// fit, the error has the plan as it was ([`EdgeError::into_plan`]).
+    /// The same plan with one more cable. Cables may be added in any order. Both ends may be one
+    /// point: such a loop lies on no route and in no minimal cut. If the cable does not fit, the
+    /// error has the plan as it was ([`EdgeError::into_plan`]).
     // The plan that an error holds is as large as the plan of a success.
     #[allow(clippy::result_large_err)]
     pub fn with_edge(self, number: u8, first: u8, second: u8) -> Result<Plan, EdgeError> {
@@ -200,7 +201,7 @@ impl Plan {
     /// route there is one, the empty cut. There may be very many: a plan of n points can have
     /// 2^(n - 2).
     ///
-    /// Memory is asked for as the list needs it, and never for more rows than `most`, each of 12
+    /// Memory is asked for as the list needs it, and never for more rows than `most`, each of 16
     /// bytes. If it is not there, that is an error too; a system that promises more than it has can
     /// still end the process once the rows are filled, so choose a bound that fits the machine.
     pub fn mincuts(&self, most: usize) -> Result<Mincuts, ListError> {
@@ -341,12 +342,28 @@ mod tests {
         assert_eq!(refused(4, 0, 1), EdgeFault::Taken);
         assert_eq!(refused(4, 9, 9), EdgeFault::Taken);
         assert_eq!(refused(5, 0, 4), EdgeFault::Refused(Refusal::EndOutside));
-        assert_eq!(refused(5, 2, 2), EdgeFault::Refused(Refusal::SameEnds));
+        assert_eq!(refused(5, 4, 4), EdgeFault::Refused(Refusal::EndOutside));
 
         // The plan that was given back takes the next cable.
         let error = bridge().with_edge(4, 0, 3).expect_err("taken");
         let plan = error.into_plan().with_edge(5, 0, 3).expect("accepted");
         assert_eq!(plan.ends(5), Some((0, 3)));
+    }
+
+    #[test]
+    fn a_loop_changes_neither_list_nor_useful_part() {
+        for node in 0..4 {
+            let looped = bridge().with_edge(5, node, node).expect("accepted");
+            assert_eq!(looped.ends(5), Some((node, node)));
+            assert_eq!(looped.mincuts(4), bridge().mincuts(4));
+            assert_eq!(looped.relevant(), bridge().relevant());
+            // The cut 3 is minimal, and is not with the loop.
+            assert_eq!(looped.classify(EdgeSet(3)), Ok(Verdict::Minimal));
+            let more = looped.classify(EdgeSet(3 | 1 << 5));
+            assert_eq!(more, Ok(Verdict::NotMinimal));
+            let bytes = looped.encode().expect("accepted");
+            assert_eq!(Plan::decode(&bytes), Ok(looped));
+        }
     }
 
     #[test]

@@ -10,8 +10,15 @@ pub fn hall(nodes: u8, sink: u8, ends: &[(u8, u8)]) -> Record {
     )
 }
 
+const BRIDGE: [(u8, u8); 5] = [(0, 1), (0, 2), (1, 2), (1, 3), (2, 3)];
+
 pub fn bridge() -> Record {
-    hall(4, 3, &[(0, 1), (0, 2), (1, 2), (1, 3), (2, 3)])
+    hall(4, 3, &BRIDGE)
+}
+
+/// The bridge with a loop at each of its points.
+pub fn bridge_with_loops() -> Record {
+    hall(4, 3, &[&BRIDGE[..], &loops(4)].concat())
 }
 
 pub fn bar_cable() -> Record {
@@ -51,6 +58,21 @@ pub fn pairs(nodes: u8) -> Vec<(u8, u8)> {
     (0..nodes)
         .flat_map(|one| (one + 1..nodes).map(move |other| (one, other)))
         .collect()
+}
+
+/// Every point with itself.
+fn loops(nodes: u8) -> Vec<(u8, u8)> {
+    (0..nodes).map(|node| (node, node)).collect()
+}
+
+/// Every way to lay a cable, but for the order of its ends.
+pub fn ends(nodes: u8) -> Vec<(u8, u8)> {
+    [pairs(nodes), loops(nodes)].concat()
+}
+
+/// A loop at each point and no other cable; the room is the last point.
+pub fn loops_alone(nodes: u8) -> Record {
+    hall(nodes, nodes - 1, &loops(nodes))
 }
 
 /// The server joined to each of a line of points, the line's far end to the room.

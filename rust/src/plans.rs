@@ -6,8 +6,8 @@ use crate::record::{Record, MOST_NODES, SLOTS};
 use crate::reference::{self, LONGEST_PLAN};
 use crate::rng::Rng;
 
-/// A random record without fault: 2 nodes to the most, parallel edges, gaps in the edge numbers, from no
-/// edge to all 64.
+/// A random record without fault: 2 nodes to the most, parallel edges, loops, gaps in the edge numbers,
+/// from no edge to all 64.
 pub fn record(rng: &mut Rng) -> Record {
     let present = match rng.below(6) {
         0 => 0,
@@ -29,11 +29,13 @@ pub fn record_with(rng: &mut Rng, present: u64) -> Record {
     };
     let (source, sink) = two_nodes(rng, nodes);
     let mut record = Record::bare(nodes, source, sink);
+    let looping = rng.once_in(3);
     let mut ends = two_nodes(rng, nodes);
     for edge in (0..SLOTS).filter(|edge| present >> edge & 1 == 1) {
         ends = match rng.below(8) {
             0 => ends,
             1 => (ends.1, ends.0),
+            2 if looping => (ends.0, ends.0),
             _ => two_nodes(rng, nodes),
         };
         record = record.with(edge, ends.0, ends.1);
@@ -48,8 +50,8 @@ fn two_nodes(rng: &mut Rng, nodes: u8) -> (u8, u8) {
     (one, (one + step) % nodes)
 }
 
-/// A random plan of 2 to 7 points and at most `most` cables: parallel cables, gaps in the cable
-/// numbers, spurs, hanging cycles, and plans without a route.
+/// A random plan of 2 to 7 points and at most `most` cables: parallel cables, loops, gaps in the
+/// cable numbers, spurs, hanging cycles, and plans without a route.
 pub fn small(rng: &mut Rng, most: usize) -> Record {
     let nodes = 2 + rng.below(6) as u8;
     let mut ends = match rng.below(8) {
@@ -83,11 +85,19 @@ pub fn small(rng: &mut Rng, most: usize) -> Record {
         _ => scattered(rng, nodes, most),
     };
     ends.truncate(most);
+    // In one plan of four, a third of the cables are loops.
+    if rng.once_in(4) {
+        for (one, other) in &mut ends {
+            if rng.once_in(3) {
+                *other = *one;
+            }
+        }
+    }
     numbered(rng, nodes, ends)
 }
 
-/// A random plan of many points: a tree, then cables between points not far apart, so that most of
-/// it is useful and the list stays short enough to check.
+/// A random plan of many points: a tree, then cables between points not far apart and a few loops,
+/// so that most of it is useful and the list stays short enough to check.
 pub fn large(rng: &mut Rng) -> Record {
     let nodes = 8 + rng.below(usize::from(MOST_NODES) - 7) as u8;
     let near = 1 + rng.below(6);
@@ -98,7 +108,7 @@ pub fn large(rng: &mut Rng) -> Record {
     }
     for _ in 0..rng.below(SLOTS - ends.len() + 1).min(rng.below(40)) {
         let one = rng.below(nodes.into()) as u8;
-        let step = 1 + rng.below(near + 1) as u8;
+        let step = rng.below(near + 2) as u8;
         if one + step < nodes {
             ends.push((one, one + step));
         }
@@ -115,6 +125,19 @@ pub fn dense(nodes: u8, seed: u64) -> Record {
         record = record.with(edge, one, other);
     }
     renamed(&mut rng, &record)
+}
+
+/// The same plan with so many loops more, under any free numbers and at any points; fewer if not so
+/// many numbers are free.
+pub fn with_loops(rng: &mut Rng, record: &Record, loops: usize) -> Record {
+    let mut free: Vec<usize> = (0..SLOTS).filter(|&slot| !record.holds(slot)).collect();
+    rng.shuffle(&mut free);
+    free.into_iter()
+        .take(loops)
+        .fold(record.clone(), |more, slot| {
+            let node = rng.below(record.nodes.into()) as u8;
+            more.with(slot, node, node)
+        })
 }
 
 /// The same plan under other names for its points, with the ends of some cables exchanged.
@@ -262,7 +285,7 @@ pub enum Damage {
     EdgeOutOfOrder,
     /// An operand at or beyond a limit.
     ValueOutOfRange,
-    /// Server and room, or both ends of a cable, at one point.
+    /// Server and room at one point; or both ends of a cable, which is no fault.
     EqualEnds,
 }
 
@@ -443,7 +466,7 @@ pub fn faulty() -> Vec<(u8, Record)> {
         add(5, &|r| r.sink = high);
         // 5 before 6 and the slots.
         add(5, &|r| (r.source, r.sink) = (high, high));
-        add(5, &|r| (r.sink, r.second[1]) = (high, 0));
+        add(5, &|r| (r.sink, r.second[1]) = (high, 4));
     }
     for node in 0..4 {
         add(6, &|r| (r.source, r.sink) = (node, node));
@@ -459,10 +482,9 @@ pub fn faulty() -> Vec<(u8, Record)> {
             (9, 1, 0, 4),
             (9, 1, 255, 255),
             (9, 1, 4, 4),
-            (10, 1, 0, 0),
-            (10, 1, 3, 3),
             (13, 0, 1, 0),
             (13, 0, 0, 1),
+            (13, 0, 3, 3),
             (13, 0, 255, 255),
         ] {
             add(number, &|r| set(r, present, first, second));
@@ -472,7 +494,6 @@ pub fn faulty() -> Vec<(u8, Record)> {
                     set(r, present, first, second);
                     (r.present, r.first[later]) = match number {
                         9 => (r.present & !(1 << later), 1),
-                        10 => (r.present | 1 << later, 200),
                         _ => (r.present | 1 << later, 4),
                     };
                 });

@@ -46,6 +46,15 @@ impl Record {
         self
     }
 
+    /// The same record without these edges.
+    pub fn without(mut self, edges: u64) -> Record {
+        self.present &= !edges;
+        for edge in (0..SLOTS).filter(|edge| edges >> edge & 1 == 1) {
+            (self.first[edge], self.second[edge]) = (0, 0);
+        }
+        self
+    }
+
     /// Whether the edge is present.
     pub fn holds(&self, edge: usize) -> bool {
         self.present >> edge & 1 == 1
@@ -54,6 +63,13 @@ impl Record {
     /// The edges present, rising.
     pub fn edges(&self) -> impl Iterator<Item = usize> + '_ {
         (0..SLOTS).filter(|&edge| self.holds(edge))
+    }
+
+    /// The loops: the edges present with both ends at one node.
+    pub fn loops(&self) -> u64 {
+        self.edges()
+            .filter(|&edge| self.first[edge] == self.second[edge])
+            .fold(0, |set, edge| set | 1 << edge)
     }
 }
 

@@ -21,7 +21,6 @@ pub enum Refusal {
     EdgeNumberTooHigh = 7,
     EdgeNumberNotRising = 8,
     EndOutside = 9,
-    SameEnds = 10,
     RowsDiffer = 11,
     TooManyCuts = 12,
     AbsentEdgeNotZero = 13,
@@ -30,10 +29,10 @@ pub enum Refusal {
 }
 
 /// The numbers of the reader's refusals.
-pub const READING: &[u8] = &[1, 2, 3, 4, 5, 6, 7, 8, 9, 10];
+pub const READING: &[u8] = &[1, 2, 3, 4, 5, 6, 7, 8, 9];
 
 /// The numbers of a record's faults.
-pub const FAULTS: &[u8] = &[4, 5, 6, 9, 10, 13];
+pub const FAULTS: &[u8] = &[4, 5, 6, 9, 13];
 
 /// The number beside a result: 0 if it is complete.
 pub fn number<T>(result: &Result<T, Refusal>) -> u8 {
@@ -65,7 +64,6 @@ pub fn decode(plan: &[u8]) -> Result<Record, Refusal> {
                 refuse_unless(edge <= 63, EdgeNumberTooHigh)?;
                 refuse_unless(edge >= lowest_fit, EdgeNumberNotRising)?;
                 refuse_unless(first < nodes && second < nodes, EndOutside)?;
-                refuse_unless(first != second, SameEnds)?;
                 record = record.with(edge.into(), first, second);
                 lowest_fit = edge + 1;
             }
@@ -87,7 +85,6 @@ pub fn fault(record: &Record) -> Result<(), Refusal> {
         let (first, second) = (record.first[edge], record.second[edge]);
         if record.holds(edge) {
             refuse_unless(first.max(second) < nodes, EndOutside)?;
-            refuse_unless(first != second, SameEnds)?;
         } else {
             refuse_unless(first == 0 && second == 0, AbsentEdgeNotZero)?;
         }

@@ -26,7 +26,9 @@ pub fn relevant(record: &Record) -> Part {
     }
     Part {
         nodes,
-        edges: edges_where(record, |one, other| nodes >> one & nodes >> other & 1 == 1),
+        edges: edges_where(record, |one, other| {
+            one != other && nodes >> one & nodes >> other & 1 == 1
+        }),
     }
 }
 

@@ -167,6 +167,8 @@ fn the_bridge_is_printed_whole() {
 fn a_file_is_listed() {
     let bridge = reference::encode(&halls::bridge(), 265).expect("accepted");
     assert_eq!(print("bridge", &bridge), (BRIDGE_PRINTED.to_string(), 0));
+    let loops = reference::encode(&halls::bridge_with_loops(), 265).expect("accepted");
+    assert_eq!(print("loops", &loops), (BRIDGE_PRINTED.to_string(), 0));
     let no_route = [0x50, 5, 0x53, 4, 1, 0x45];
     assert_eq!(
         print("no-route", &no_route),

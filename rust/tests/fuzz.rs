@@ -131,9 +131,9 @@ fn every_byte_string_is_a_case() {
     }
     assert_eq!(counts.cases, 1 + 256 + 65_536 + 2_000);
     assert_eq!(counts.fault.total(), counts.cases);
-    assert_eq!(counts.relevant.total(), counts.cases);
     assert_eq!(counts.encode.total(), counts.cases);
     assert!(counts.decode.total() >= counts.cases);
+    assert!(counts.relevant.total() >= counts.cases);
     assert!(counts.classify.total() >= counts.cases);
     assert!(counts.list.total() >= counts.cases);
     assert!(counts.widths >= counts.cases);
@@ -164,6 +164,35 @@ fn the_digest_is_fixed_by_the_cases() {
     }
 }
 
+/// A loop is seen in the record alone, and in the plan alone.
+#[test]
+fn loops_of_a_case_are_seen() {
+    let (bridge, looped) = (halls::bridge(), halls::bridge_with_loops());
+    for (record, in_the_plan, seen) in [
+        (&bridge, &bridge, false),
+        (&looped, &bridge, true),
+        (&bridge, &looped, true),
+    ] {
+        let case = Case {
+            record: record.clone(),
+            plan: &plans::bytes(in_the_plan),
+            ..Case::of(&[])
+        };
+        assert_eq!(case.has_loop(), seen, "{case:?}");
+    }
+
+    let mut without = 0;
+    for (_, bytes) in cases(90, 10_000) {
+        let case = Case::of(&bytes);
+        if !case.has_loop() {
+            let read = reference::decode(case.plan).unwrap_or_default();
+            assert_eq!((read.loops(), case.record.loops()), (0, 0));
+            without += 1;
+        }
+    }
+    assert!((2_000..8_000).contains(&without), "{without}");
+}
+
 /// Among the cases that are made, no kind is missing.
 #[test]
 fn cases_of_every_kind_are_made() {
@@ -190,6 +219,7 @@ fn cases_of_every_kind_are_made() {
                 matches!(case.plan, [0x50, 65..=70, ..]),
             ),
             ("all cables", fit && record.present == u64::MAX),
+            ("a loop", fit && record.loops() != 0),
             ("a set of present cables", case.set & !record.present == 0),
             ("exactly the rows needed", case.rows == Size::Needed(0)),
             ("one row less", case.rows == Size::Needed(-1)),
@@ -287,6 +317,18 @@ fn the_command() {
     let (code, text) = run(&["--digest", "--seed", "88", "--cases", "7"]);
     let number = digest(cases(88, 7).map(|(_, bytes)| bytes));
     assert_eq!((code, text), (Some(0), format!("{number:016x}\n")));
+    let (code, text) = run(&[
+        "--digest",
+        "--without-loops",
+        "--seed",
+        "88",
+        "--cases",
+        "7",
+    ]);
+    let without = cases(88, 7).map(|(_, bytes)| bytes);
+    let without = digest(without.filter(|bytes| !Case::of(bytes).has_loop()));
+    assert_eq!((code, text), (Some(0), format!("{without:016x}\n")));
+    assert_ne!(without, number);
 
     let file = Path::new(env!("CARGO_TARGET_TMPDIR")).join("fuzz-replay");
     fs::write(&file, making::bytes(88, 7)).expect("a file");

@@ -134,6 +134,14 @@ fn the_other_halls_are_read_and_written_back() {
             "50 03 53 00 02 43 00 01 02 43 01 00 01 45",
             Record::bare(3, 0, 2).with(0, 1, 2).with(1, 0, 1),
         ),
+        // Loops alone: at the server, at a point that hangs on nothing, at the room.
+        (
+            "50 03 53 00 01 43 00 00 00 43 07 02 02 43 3F 01 01 45",
+            Record::bare(3, 0, 1)
+                .with(0, 0, 0)
+                .with(7, 2, 2)
+                .with(63, 1, 1),
+        ),
         // No cable at the server, and the server above the room.
         ("50 05 53 04 01 45", Record::bare(5, 4, 1)),
         // The highest numbers, with a gap below them.
@@ -227,7 +235,7 @@ fn values_are_tested_in_their_order() {
         (5, "50 02 53 FF 00"),
         (5, "50 02 53 00 80"),
         (6, "50 02 53 01 01"),
-        // 7 before 8, 9 and 10; 8 before 9 and 10; 9 before 10.
+        // 7 before 8 and 9, 8 before 9; a loop outside is 9.
         (7, "50 02 53 00 01 43 40 00 01 45"),
         (7, "50 02 53 00 01 43 40 02 02 45"),
         (7, "50 02 53 00 01 43 3F 00 01 43 40 00 01"),
@@ -242,10 +250,10 @@ fn values_are_tested_in_their_order() {
         (9, "50 02 53 00 01 43 00 FF FF 45"),
         (9, "50 20 53 00 01 43 00 00 20 45"),
         (9, "50 40 53 00 01 43 00 00 40 45"),
-        (10, "50 02 53 00 01 43 00 00 00 45"),
-        (10, "50 02 53 00 01 43 00 01 01 45"),
-        // The first command that fails decides.
-        (10, "50 02 53 00 01 43 00 00 00 43 40 00 00"),
+        (9, "50 40 53 00 01 43 00 40 40 45"),
+        // The first command that fails decides, and a loop does not fail.
+        (7, "50 02 53 00 01 43 00 00 00 43 40 00 00"),
+        (8, "50 02 53 00 01 43 05 01 01 43 05 01 01 45"),
         (9, "50 02 53 00 01 43 00 00 02 44"),
         (5, "50 02 53 02 00 00"),
     ]);

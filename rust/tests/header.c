@@ -69,5 +69,11 @@ int main(void)
     CHECK(cutlist_plan_fault(&plan) == CUTLIST_ABSENT_EDGE_NOT_ZERO);
     plan.present = (uint64_t)1 << 63;
     CHECK(cutlist_plan_fault(&plan) == CUTLIST_ACCEPTED);
+
+    /* A loop, which is of no use. */
+    plan.first[63] = 1;
+    CHECK(cutlist_plan_fault(&plan) == CUTLIST_ACCEPTED);
+    CHECK(cutlist_plan_relevant(&plan, &nodes, &edges) == CUTLIST_ACCEPTED);
+    CHECK(nodes == 3 && edges == 0);
     return 0;
 }

@@ -80,6 +80,7 @@ fn assert_hall(hall: &Record, cuts: &[u64], sides: &[Nodes]) {
 #[test]
 fn the_halls() {
     assert_hall(&halls::bridge(), &[3, 14, 21, 24], &[1, 3, 5, 7]);
+    assert_hall(&halls::bridge_with_loops(), &[3, 14, 21, 24], &[1, 3, 5, 7]);
     assert_hall(&halls::bar_cable(), &[3, 5, 8], &[1, 5, 7]);
     assert_hall(&halls::spur(), &[1, 2], &[1, 3]);
     assert_hall(&halls::hanging_triangle(), &[1, 2], &[1, 3]);
@@ -142,6 +143,8 @@ fn without_a_route_the_list_is_one_row() {
     assert_hall(&halls::turned(triangle), &[0], &[1 << 3]);
     let apart = halls::hall(6, 5, &[(0, 1), (1, 2), (2, 0), (3, 4), (4, 5), (5, 3)]);
     assert_hall(&apart, &[0], &[1]);
+    assert_hall(&halls::loops_alone(5), &[0], &[1]);
+    assert_hall(&halls::turned(halls::loops_alone(64)), &[0], &[1 << 63]);
 }
 
 /// Cable 63 weighs 2^63: rising order is that of unsigned numbers, and point 63 weighs 2^63.
@@ -307,17 +310,19 @@ fn spread_plans_list_the_same_cuts() {
     assert!(high > 5_000, "{high}");
 }
 
-/// Every way to lay 4 cables among 4 points or leave them out, for each server and room.
+/// Every way to lay 4 cables among 4 points, loops too, or leave them out, for some servers and rooms.
 #[test]
 fn all_plans_of_4_points_and_4_cables() {
     let mut rng = Rng::new(54);
     let pairs = [(0, 1), (2, 0), (0, 3), (1, 2), (3, 1), (2, 3)];
+    let loops = [(0, 0), (1, 1), (2, 2), (3, 3)];
+    let ends = [&pairs[..], &loops].concat();
     let mut listed = 0;
-    for code in 0..7usize.pow(4) {
+    for code in 0..11usize.pow(4) {
         for (source, sink) in [(0, 3), (3, 0), (1, 2)] {
             let mut record = Record::bare(4, source, sink);
             for (place, slot) in [0, 5, 62, 63].into_iter().enumerate() {
-                if let Some(&(one, other)) = pairs.get(code / 7usize.pow(place as u32) % 7) {
+                if let Some(&(one, other)) = ends.get(code / 11usize.pow(place as u32) % 11) {
                     record = record.with(slot, one, other);
                 }
             }
@@ -328,7 +333,7 @@ fn all_plans_of_4_points_and_4_cables() {
             listed += 1;
         }
     }
-    assert_eq!(listed, 3 * 2401);
+    assert_eq!(listed, 3 * 14_641);
 }
 
 /// Larger random plans against the second lister; its two ways agree where both can be gone.
@@ -573,7 +578,9 @@ fn faulty_records_come_before_11_and_12() {
         let sides = if rng.once_in(2) { cuts } else { rng.below(20) };
         tally.count(list_with(&mut rng, &record, &rows, cuts, sides));
     }
-    tally.assert_each(&[FAULTS, &[0, 11, 12]].concat(), 300);
+    let numbers = [FAULTS, &[0, 11, 12]].concat();
+    tally.assert_only(&numbers);
+    tally.assert_each(&numbers, 300);
 }
 
 /// The lister that the library is measured beside gives the same rows and refusals.

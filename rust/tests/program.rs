@@ -123,6 +123,18 @@ fn no_route_is_one_line_with_a_hyphen() {
 }
 
 #[test]
+fn loops_change_nothing_that_is_printed() {
+    let bridge = print(&plans::bytes(&halls::bridge()));
+    assert_eq!(print(&plans::bytes(&halls::bridge_with_loops())), bridge);
+    assert_eq!(
+        print(&plans::bytes(&halls::loops_alone(5))),
+        "cuts 1\n- | 0\n"
+    );
+    let outside = [0x50, 2, 0x53, 0, 1, 0x43, 0, 2, 2, 0x45];
+    assert_eq!(print(&outside), "refused 9\n");
+}
+
+#[test]
 fn more_than_2048_cuts_are_refused_with_12() {
     let hubs = plans::bytes(&halls::two_hubs(12));
     assert_eq!(print(&hubs), "refused 12\n");

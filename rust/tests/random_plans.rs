@@ -12,7 +12,7 @@ use cutlist_tests::{compare, sys};
 #[test]
 fn whole_plans_are_accepted_and_written_back() {
     let mut rng = Rng::new(1);
-    let (mut none, mut all, mut gaps, mut parallel) = (0, 0, 0, 0);
+    let (mut none, mut all, mut gaps, mut parallel, mut loops) = (0, 0, 0, 0, 0);
     let mut sizes = [0; MOST_NODES as usize + 1];
     for _ in 0..100_000 {
         let record = plans::record(&mut rng);
@@ -26,9 +26,11 @@ fn whole_plans_are_accepted_and_written_back() {
         all += u32::from(edges == 64);
         gaps += u32::from(record.present.wrapping_add(1) & record.present != 0);
         parallel += u32::from(has_parallel(&record));
+        loops += u32::from(record.loops() != 0);
     }
     assert!(sizes[2..].iter().all(|&size| size > 900), "{sizes:?}");
-    assert!([none, all, gaps, parallel].iter().all(|&n| n > 10_000));
+    let kinds = [none, all, gaps, parallel, loops];
+    assert!(kinds.iter().all(|&n| n > 10_000), "{kinds:?}");
 }
 
 /// Whether two edges join the same nodes.
@@ -76,7 +78,9 @@ fn bytes_behind_the_plan_are_not_read() {
         let beyond: Vec<u8> = (0..behind).map(|_| plans::any_byte(&mut rng)).collect();
         tally.count(compare::decode_before(&plan, &beyond));
     }
-    tally.assert_each(&[READING, &[0]].concat(), 100);
+    let numbers = [READING, &[0]].concat();
+    tally.assert_only(&numbers);
+    tally.assert_each(&numbers, 100);
 }
 
 #[test]
@@ -85,7 +89,7 @@ fn damaged_plans_are_read_alike() {
     let mut whole = Tally::default();
     for damage in Damage::ALL {
         let mut tally = Tally::default();
-        for _ in 0..30_000 {
+        for _ in 0..60_000 {
             let number = compare::round_trip(&damage.plan(&mut rng));
             tally.count(number);
             whole.count(number);
@@ -93,8 +97,8 @@ fn damaged_plans_are_read_alike() {
         // The numbers that this damage must show, and whether it shows no others.
         let (numbers, only): (&[u8], bool) = match damage {
             Damage::Cut => (&[1], true),
-            Damage::Flip => (&[0, 2, 3, 4, 5, 6, 7, 8, 9, 10], false),
-            Damage::Insert => (&[1, 2, 3, 4, 5, 6, 7, 8, 9, 10], false),
+            Damage::Flip => (&[0, 2, 3, 4, 5, 6, 7, 8, 9], false),
+            Damage::Insert => (&[1, 2, 3, 4, 5, 6, 7, 8, 9], false),
             Damage::Lose => (&[1, 2, 4, 5, 8, 9], false),
             Damage::Append => (&[3], true),
             Damage::SwapCommands => (&[0, 2, 3, 8], true),
@@ -102,15 +106,17 @@ fn damaged_plans_are_read_alike() {
             Damage::LoseCommand => (&[0, 1, 2], true),
             Damage::OneEdgeTooMany => (&[1, 7, 8], true),
             Damage::EdgeOutOfOrder => (&[8], true),
-            Damage::ValueOutOfRange => (&[0, 4, 5, 6, 7, 8, 9, 10], true),
-            Damage::EqualEnds => (&[6, 10], true),
+            Damage::ValueOutOfRange => (&[0, 4, 5, 6, 7, 8, 9], true),
+            Damage::EqualEnds => (&[0, 6], true),
         };
         tally.assert_each(numbers, 10);
         if only {
             tally.assert_only(numbers);
         }
     }
-    whole.assert_each(&[READING, &[0]].concat(), 1000);
+    let numbers = [READING, &[0]].concat();
+    whole.assert_only(&numbers);
+    whole.assert_each(&numbers, 1000);
 }
 
 #[test]
@@ -127,7 +133,9 @@ fn plans_with_many_faults_are_read_alike() {
         }
         tally.count(compare::round_trip(&plan));
     }
-    tally.assert_each(&[READING, &[0]].concat(), 500);
+    let numbers = [READING, &[0]].concat();
+    tally.assert_only(&numbers);
+    tally.assert_each(&numbers, 500);
 }
 
 /// A plan of at least 265 bytes is decided by the first 265, and is neither accepted nor cut short.
@@ -159,7 +167,7 @@ fn the_first_265_bytes_decide() {
         assert_eq!(sys::decode(&plan[..DECIDING]), (number, record));
         tally.count(compare::decode(&plan));
     }
-    let numbers = [2, 3, 4, 5, 6, 7, 8, 9, 10];
+    let numbers = [2, 3, 4, 5, 6, 7, 8, 9];
     tally.assert_only(&numbers);
     tally.assert_each(&numbers, 100);
 }

@@ -1,5 +1,5 @@
 //! Records built field by field: the record test finds the first fault in the paper's order, and
-//! the writer refuses with that number before it looks at the buffer.
+//! the writer refuses with that number before it looks at the buffer. A loop is no fault.
 
 use cutlist_tests::compare;
 use cutlist_tests::plans;
@@ -33,7 +33,6 @@ fn changed(record: &Record, change: impl FnOnce(&mut Record)) -> Record {
 fn spoil(record: &mut Record, slot: usize, number: u8) {
     let (present, first, second) = match number {
         9 => (true, 0, record.nodes),
-        10 => (true, 1, 1),
         13 => (false, 0, 1),
         _ => unreachable!("{number} is no fault of a slot"),
     };
@@ -64,9 +63,6 @@ fn one_fault_alone_gives_its_number() {
             assert_fault(&good.clone().with(slot, high, 0), 9);
             assert_fault(&good.clone().with(slot, 0, high), 9);
         }
-        for node in 0..4 {
-            assert_fault(&good.clone().with(slot, node, node), 10);
-        }
         for end in [1, 3, 4, 128, 255] {
             for (first, second) in [(end, 0), (0, end), (end, end)] {
                 let mut record = good.clone().with(slot, first, second);
@@ -77,12 +73,29 @@ fn one_fault_alone_gives_its_number() {
     }
 }
 
+/// A loop in any slot and at any point is accepted, the one with both ends 0 too; outside it is 9,
+/// and 13 if it is not present.
 #[test]
-fn in_one_slot_9_comes_before_10() {
-    for slot in 0..SLOTS {
-        for end in [7, 8, 32, 255] {
-            assert_fault(&Record::bare(7, 0, 1).with(slot, end, end), 9);
+fn loops_are_no_fault() {
+    for nodes in [2, 7, MOST_NODES] {
+        for slot in 0..SLOTS {
+            for node in 0..nodes {
+                let record = Record::bare(nodes, 0, 1).with(slot, node, node);
+                assert_eq!(sys::fault(&record), 0, "{record:?}");
+                assert_eq!(compare::fault(&record), 0);
+                let absent = changed(&record, |r| r.present = 0);
+                assert_eq!(compare::fault(&absent), if node == 0 { 0 } else { 13 });
+            }
+            for outside in [nodes, nodes + 1, 128, 255] {
+                assert_fault(&Record::bare(nodes, 0, 1).with(slot, outside, outside), 9);
+            }
         }
+        // In all slots at once.
+        let all = (0..SLOTS).fold(Record::bare(nodes, 0, 1), |record, slot| {
+            let node = slot as u8 % nodes;
+            record.with(slot, node, node)
+        });
+        assert_eq!(sys::fault(&all), 0, "{all:?}");
     }
 }
 
@@ -92,8 +105,8 @@ fn the_lowest_faulty_slot_decides() {
     let mut tally = Tally::default();
     for high in 1..SLOTS {
         for low in 0..high {
-            for number in [9, 10, 13] {
-                for later in [9, 10, 13] {
+            for number in [9, 13] {
+                for later in [9, 13] {
                     let present = rng.draw();
                     let mut record = plans::record_with(&mut rng, present);
                     spoil(&mut record, low, number);
@@ -104,13 +117,13 @@ fn the_lowest_faulty_slot_decides() {
             }
         }
     }
-    tally.assert_only(&[9, 10, 13]);
-    tally.assert_each(&[9, 10, 13], 3 * 2016);
+    tally.assert_only(&[9, 13]);
+    tally.assert_each(&[9, 13], 2 * 2016);
 }
 
 #[test]
 fn points_server_and_room_come_before_the_slots_in_the_order_4_5_6() {
-    for number in [9, 10, 13] {
+    for number in [9, 13] {
         for slot in [0, 1, 31, 32, 63] {
             let mut record = Record::bare(5, 0, 4);
             spoil(&mut record, slot, number);
@@ -167,10 +180,9 @@ fn all_pairs_of_ends_in_one_slot() {
                 absent.count(compare::fault(&record));
             }
         }
-        let nodes = u64::from(nodes);
-        assert_eq!(present.of(9), 65536 - nodes * nodes);
-        assert_eq!(present.of(10), nodes);
-        assert_eq!(present.of(0), nodes * nodes - nodes);
+        // Every pair of points is fit, and so is each point with itself.
+        let pairs = u64::from(nodes) * u64::from(nodes);
+        assert_eq!((present.of(0), present.of(9)), (pairs, 65536 - pairs));
         assert_eq!((absent.of(0), absent.of(13)), (1, 65535));
     }
 }
@@ -201,7 +213,9 @@ fn random_records_are_tested_and_written_alike() {
     let numbers = [FAULTS, &[0]].concat();
     tested.assert_only(&numbers);
     tested.assert_each(&numbers, 1000);
-    written.assert_each(&[FAULTS, &[0, 15]].concat(), 1000);
+    let numbers = [FAULTS, &[0, 15]].concat();
+    written.assert_only(&numbers);
+    written.assert_each(&numbers, 1000);
 }
 
 /// Records of random bytes throughout.
@@ -227,5 +241,6 @@ fn wild_records_are_tested_alike() {
         }
         tally.count(compare::fault(&record));
     }
+    tally.assert_only(&[FAULTS, &[0]].concat());
     tally.assert_each(FAULTS, 1000);
 }

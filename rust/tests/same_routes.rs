@@ -6,7 +6,7 @@ use std::collections::HashMap;
 use cutlist_tests::answers::Nodes;
 use cutlist_tests::halls;
 use cutlist_tests::plans;
-use cutlist_tests::record::{Record, SLOTS};
+use cutlist_tests::record::Record;
 use cutlist_tests::rng::Rng;
 use cutlist_tests::{brute, sys};
 
@@ -50,6 +50,10 @@ fn the_exchanged_halls_have_equal_lists() {
     ));
     let apart = halls::hall(6, 5, &[(0, 1), (1, 2), (2, 0), (3, 4), (4, 5), (5, 3)]);
     assert!(compare(&mut rng, &apart, &halls::two_points(0)));
+    // So have a hall and the same with loops.
+    let (bridge, looped) = (halls::bridge(), halls::bridge_with_loops());
+    assert!(compare(&mut rng, &bridge, &looped));
+    assert!(compare(&mut rng, &halls::loops_alone(7), &apart));
     // Two cables side by side are not two in a line, nor the bridge the hall of the bar cable.
     assert!(!compare(&mut rng, &one, &halls::two_points(2)));
     assert!(!compare(&mut rng, &halls::bridge(), &halls::bar_cable()));
@@ -61,13 +65,9 @@ fn with_other_useless_cables(rng: &mut Rng, record: &Record) -> Record {
     let useful = brute::relevant(record);
     let mut other = Record {
         nodes: record.nodes + 3,
-        ..record.clone()
+        ..record.clone().without(!useful.edges)
     };
-    for edge in (0..SLOTS).filter(|edge| useful.edges >> edge & 1 == 0) {
-        other.present &= !(1 << edge);
-        (other.first[edge], other.second[edge]) = (0, 0);
-    }
-    // A cycle and a spur on the new points, at any point or none.
+    // A cycle and a spur on the new points, at any point or none; and loops anywhere.
     let hook = rng.below(record.nodes.into()) as u8;
     let [a, b, c] = [record.nodes, record.nodes + 1, record.nodes + 2];
     let free: Vec<usize> = brute::members(!other.present).collect();
@@ -80,7 +80,8 @@ fn with_other_useless_cables(rng: &mut Rng, record: &Record) -> Record {
             other = other.with(slot(rng, place), one, end);
         }
     }
-    other
+    let loops = rng.below(3);
+    plans::with_loops(rng, &other, loops)
 }
 
 #[test]
@@ -130,23 +131,15 @@ fn plans_that_differ_in_a_cable() {
         let (one, two) = (rng.pick(&edges), rng.pick(&edges));
         let mut other = record.clone();
         match rng.below(4) {
-            // One end moves.
-            0 => {
-                let end = rng.below(record.nodes.into()) as u8;
-                if end != other.second[one] {
-                    other.first[one] = end;
-                }
-            }
+            // One end moves, perhaps to the other.
+            0 => other.first[one] = rng.below(record.nodes.into()) as u8,
             // Two cables are exchanged.
             1 => {
                 other.first.swap(one, two);
                 other.second.swap(one, two);
             }
             // A cable is lost.
-            2 => {
-                other.present &= !(1 << one);
-                (other.first[one], other.second[one]) = (0, 0);
-            }
+            2 => other = other.without(1 << one),
             // Another room.
             _ => {
                 let sink = rng.below(record.nodes.into()) as u8;
@@ -163,7 +156,7 @@ fn plans_that_differ_in_a_cable() {
     assert!(equal > 4_000 && unequal > 4_000, "{equal} {unequal}");
 }
 
-/// Over every way to lay a few cables among few points, lists and routes fix each other.
+/// Over every way to lay a few cables among few points, loops too, lists and routes fix each other.
 #[test]
 fn lists_and_routes_fix_each_other() {
     let mut rng = Rng::new(64);
@@ -171,17 +164,16 @@ fn lists_and_routes_fix_each_other() {
     let mut routes_of: HashMap<Vec<u64>, Vec<u64>> = HashMap::new();
     let mut plans = 0;
     for (nodes, cables) in [(2, 5), (3, 5), (4, 4), (5, 4)] {
-        let complete = halls::complete(nodes);
-        let pairs = brute::members(complete.present).count();
-        for code in 0..(pairs + 1).pow(cables) {
+        let ends = halls::ends(nodes);
+        let choices = ends.len() + 1;
+        for code in 0..choices.pow(cables) {
             let mut record = Record::bare(nodes, 0, nodes - 1);
             let mut rest = code;
             for slot in 0..cables as usize {
-                let pair = rest % (pairs + 1);
-                rest /= pairs + 1;
-                if pair < pairs {
-                    record = record.with(slot, complete.first[pair], complete.second[pair]);
+                if let Some(&(one, other)) = ends.get(rest % choices) {
+                    record = record.with(slot, one, other);
                 }
+                rest /= choices;
             }
             let routes = brute::minpaths(&record);
             let list = cuts(&mut rng, &record);
@@ -193,7 +185,10 @@ fn lists_and_routes_fix_each_other() {
             plans += 1;
         }
     }
-    assert_eq!(plans, 32 + 4usize.pow(5) + 7usize.pow(4) + 11usize.pow(4));
+    assert_eq!(
+        plans,
+        4usize.pow(5) + 7usize.pow(5) + 11usize.pow(4) + 16usize.pow(4)
+    );
     assert_eq!(list_of.len(), routes_of.len());
     assert!(list_of.len() > 300, "{}", list_of.len());
 }

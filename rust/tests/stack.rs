@@ -127,6 +127,7 @@ fn widths(cuts: &[u64]) -> usize {
 fn patterns() -> Vec<Record> {
     vec![
         halls::bridge(),
+        halls::bridge_with_loops(),
         halls::hanging_triangle(),
         halls::two_points(0),
         halls::two_points(64),

@@ -20,6 +20,7 @@ fn assert_part(record: &Record, nodes: Nodes, edges: u64) {
 #[test]
 fn the_halls() {
     assert_part(&halls::bridge(), 0b1111, 0b11111);
+    assert_part(&halls::bridge_with_loops(), 0b1111, 0b11111);
     assert_part(&halls::bar_cable(), 0b1111, 0b1111);
     assert_part(&halls::spur(), 0b111, 0b11);
     assert_part(&halls::hanging_triangle(), 0b111, 0b11);
@@ -61,6 +62,8 @@ fn what_hangs_on_one_point_is_not_useful() {
 fn without_a_route_server_and_room_are_useful_and_no_cable_is() {
     assert_part(&Record::bare(5, 4, 1), 0b10010, 0);
     assert_part(&Record::bare(64, 63, 0), 1 << 63 | 1, 0);
+    assert_part(&halls::loops_alone(3), 0b101, 0);
+    assert_part(&halls::loops_alone(64), 1 << 63 | 1, 0);
     // Cycles around server and room, but nothing between them.
     let apart = halls::hall(6, 5, &[(0, 1), (1, 2), (2, 0), (3, 4), (4, 5), (5, 3)]);
     assert_part(&apart, 0b100001, 0);
@@ -76,6 +79,7 @@ struct Kinds {
     whole: u32,
     useless_but_reached: u32,
     hanging_cycle: u32,
+    loop_at_a_useful_point: u32,
     parallel: u32,
     gaps: u32,
 }
@@ -84,12 +88,15 @@ impl Kinds {
     fn count(&mut self, record: &Record, part: Part) {
         let edges: Vec<usize> = brute::members(record.present).collect();
         let ends = |edge: usize| (record.first[edge], record.second[edge]);
-        let useless = record.present & !part.edges;
+        let loops = record.loops();
+        let useless = record.present & !part.edges & !loops;
         self.no_route += u32::from(part.edges == 0);
-        self.whole += u32::from(useless == 0 && part.edges != 0);
+        self.whole += u32::from(part.edges == record.present && part.edges != 0);
         let touches = |edge: usize| (part.nodes >> ends(edge).0 | part.nodes >> ends(edge).1) & 1;
-        self.useless_but_reached +=
-            u32::from(part.edges != 0 && brute::members(useless).any(|edge| touches(edge) == 1));
+        let touching =
+            |edges: u64| part.edges != 0 && brute::members(edges).any(|edge| touches(edge) == 1);
+        self.useless_but_reached += u32::from(touching(useless));
+        self.loop_at_a_useful_point += u32::from(touching(loops));
         // A useless cable whose ends still hang together without it lies on a hanging cycle.
         self.hanging_cycle += u32::from(brute::members(useless).any(|edge| {
             let (source, sink) = ends(edge);
@@ -111,6 +118,7 @@ impl Kinds {
             self.whole,
             self.useless_but_reached,
             self.hanging_cycle,
+            self.loop_at_a_useful_point,
             self.parallel,
             self.gaps,
         ];
@@ -133,20 +141,18 @@ fn random_plans_of_up_to_7_points() {
     kinds.assert_each(1_000);
 }
 
-/// Every way to lay up to 4 cables among 5 points, and up to 5 among 4, for one server and room.
+/// Every way to lay up to 4 cables among 5 points, and up to 5 among 4, loops too, for one server
+/// and room.
 #[test]
 fn all_plans_of_few_cables() {
     for (nodes, slots) in [(5, [0, 1, 2, 3].as_slice()), (4, &[0, 7, 31, 32, 63])] {
-        let complete = halls::complete(nodes);
-        let pairs: Vec<(u8, u8)> = brute::members(complete.present)
-            .map(|edge| (complete.first[edge], complete.second[edge]))
-            .collect();
-        let choices = pairs.len() + 1;
+        let ends = halls::ends(nodes);
+        let choices = ends.len() + 1;
         for code in 0..choices.pow(slots.len() as u32) {
             let mut record = Record::bare(nodes, 0, nodes - 1);
             let mut rest = code;
             for &slot in slots {
-                if let Some(&(one, other)) = pairs.get(rest % choices) {
+                if let Some(&(one, other)) = ends.get(rest % choices) {
                     record = record.with(slot, one, other);
                 }
                 rest /= choices;
@@ -241,5 +247,7 @@ fn faulty_records_give_two_empty_sets() {
         };
         tally.count(compare::relevant(&record, part));
     }
-    tally.assert_each(&[FAULTS, &[0]].concat(), 300);
+    let numbers = [FAULTS, &[0]].concat();
+    tally.assert_only(&numbers);
+    tally.assert_each(&numbers, 300);
 }

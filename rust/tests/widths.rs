@@ -49,6 +49,15 @@ fn single_cables_count_wherever_they_stand() {
     }
 }
 
+/// A row may hold loops, which no list does: they count as cables.
+#[test]
+fn loops_count_as_cables() {
+    let loops = halls::bridge_with_loops().loops();
+    assert_eq!(loops, 0b1111 << 5);
+    assert_eq!(sys::widths(&[3, 3 | 1 << 5])[..5], [0, 0, 1, 1, 0]);
+    assert_eq!(sys::widths(&[loops, 14 | loops])[3..8], [0, 1, 0, 0, 1]);
+}
+
 /// Lists in any order, with any rows and repetitions.
 #[test]
 fn random_lists() {

@@ -47,6 +47,11 @@ fn every_hall_is_printed_as_the_list_program_prints_it() {
 }
 
 #[test]
+fn patch_loops_change_no_list() {
+    cutlist(&[&root().join("halls/patch-loops.hex")]).listed(BRIDGE_LIST);
+}
+
+#[test]
 fn a_hall_that_is_refused_by_its_name_is_refused_so() {
     let mut seen = 0;
     for hall in halls() {

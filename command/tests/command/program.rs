@@ -68,6 +68,7 @@ fn a_list_that_goes_on_is_not_passed_on() {
 
 #[test]
 fn an_unknown_refusal_is_not_passed_on() {
+    fails("printf 'refused 10\\n'", UNFIT);
     fails("printf 'refused 99\\n'", UNFIT);
     fails("printf 'refused 0\\n'", UNFIT);
 }

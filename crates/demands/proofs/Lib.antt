@@ -2,6 +2,8 @@
 pub mod DemandOne
 pub mod DemandTwo
 pub mod DemandThree
+pub mod Loops
 pub mod Kept
+pub mod KeptLoops
 pub mod Halls
 pub mod Routes

@@ -1,5 +1,6 @@
 -- The demands, how each call ends, what earlier plans keep, and the table of the starred halls.
 pub mod Endings
 pub mod Demands
+pub mod Loops
 pub mod Kept
 pub mod Halls

@@ -7,7 +7,7 @@ use mathlib.Core.Path.{_≡_, refl}
 use Prim.Native.Nat.{ℕ, _≤_}
 use lib.ListN.{length}
 use Rattle.sequences.specs.Words.{range}
-use Rattle.network.specs.Record.{_when_, _then_, slots, sizeFault, pairFault, bare, withEdge}
+use Rattle.network.specs.Record.{_when_, _then_, slots, sizeFault, outsideFault, bare, withEdge}
 use Rattle.format.specs.Format.{ifTaken, edges, decodeUpTo, decodeOf, sizeStep, sizeRefusal, terminalsStep, terminalsRefusal, edgeStep, edgeRefusal, endRefusal, numberFault}
 use Rattle.format.proofs.Reading.{accepts, decode-plan}
 use Rattle.format.proofs.Writing.{encode-length}
@@ -27,5 +27,5 @@ unfolding longest flatMap range
 longest-length = refl
 
 pub longest-accepted : decodeOf longest .refusal ≡ 0
-unfolding longest flatMap range decodeUpTo ifTaken edges sizeStep sizeRefusal terminalsStep terminalsRefusal edgeStep edgeRefusal endRefusal numberFault sizeFault pairFault bare withEdge _when_ _then_
+unfolding longest flatMap range decodeUpTo ifTaken edges sizeStep sizeRefusal terminalsStep terminalsRefusal edgeStep edgeRefusal endRefusal numberFault sizeFault outsideFault bare withEdge _when_ _then_
 longest-accepted = refl

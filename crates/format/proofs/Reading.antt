@@ -17,7 +17,7 @@ use Rattle.bitset.proofs.Members.{has-zero}
 use Rattle.network.specs.declared.Network.{Network}
 use Rattle.network.specs.Record.{among, Stored, Slot, slot, slotFault, endFault, absentFault, faultOf, bare, withEdge, hasEdge, firstEnd, secondEnd, noNetwork}
 use Rattle.network.proofs.Rules.{fault-rules}
-use Rattle.network.proofs.Slots.{empty, slotFault-of, withEdge-same, withEdge-other, withEdge-stored, accepted-none}
+use Rattle.network.proofs.Slots.{empty, slotFault-of, withEdge-same, withEdge-other, withEdge-stored, withEdge-faultless, accepted-none}
 use Rattle.format.specs.declared.Decoded.{Decoded}
 use Rattle.format.specs.Format.{readerRefusals, accept, refuse, edges, decodeOf, edgeCommand, encodeOf}
 use Rattle.format.specs.Meaning.{ReadMeans}
@@ -29,13 +29,34 @@ use Rattle.format.proofs.Commands.{command-of, commands-skip}
 abbrev EmptyFrom : Network → ℕ → Type 0
 EmptyFrom N next = (j : ℕ) → next ≤ j → j < 64 → slot N j ≡ empty
 
+-- An answer that is accepted is no refusal, and tells its record.
+accept-network : {N M : Network} → accept N ≡ accept M → N ≡ M
+accept-network e = ap (λ (d : Decoded). d .network) e
+
+not-refused : {M : Network} {r : ℕ} → 0 < r → refuse r ≡ accept M → ⊥
+not-refused {M} {r} p e = let z : r ≡ 0 = ap (λ (d : Decoded). d .refusal) e in omega arith
+
+-- What the walk reads into N leaves the slots before `next` as they are.
+pub edges-keep : (turns : ℕ) (N M : Network) (next : ℕ) (s : List ℕ) → Stored N → edges turns N next s ≡ accept M
+    → (j : ℕ) → j < next → slot M j ≡ slot N j
+unfolding edges
+edges-keep zero N M next s stored q j h = absurd (not-refused (omega arith) q)
+edges-keep (suc turns) N M next s stored q j h =
+    go (λ k a b l e p. edges-keep turns (withEdge N k a b) M (suc k) (drop 4 s) (withEdge-stored N stored k a b l) e j p) (edge-view (N .nodes) next s)
+  where
+    go : ((k a b : ℕ) → k < 64 → edges turns (withEdge N k a b) (suc k) (drop 4 s) ≡ accept M → j < suc k → slot M j ≡ slot (withEdge N k a b) j)
+        → EdgeView (N .nodes) next s → slot M j ≡ slot N j
+    go later (edge k a b rest step p n l f) =
+        later k a b l (sym (edges-edge turns N next s step) ∙ q) (omega arith) ∙ withEdge-other N stored k a b l j (λ e. omega arith)
+    go later (end step p) = ap (λ (x : Network). slot x j) (sym (accept-network (sym (edges-end turns N next s step) ∙ q)))
+    go later (EdgeView.refused r step p b) = absurd (not-refused p (sym (edges-refused turns N next s step p) ∙ q))
+
 -- What it means that M was read into N from the bytes s, which held the slots from `next` on, `left` of them.
 record Read (N M : Network) (next left : ℕ) (s : List ℕ) : Type 0 where
   bytes : s ≡ flatMap (edgeCommand M) (range next left) ++ 0x45 ∷ []
   nodes : M .nodes ≡ N .nodes
   source : M .source ≡ N .source
   sink : M .sink ≡ N .sink
-  before : (j : ℕ) → j < next → slot M j ≡ slot N j
   stored : Stored M
   sound : ((j : ℕ) → j < 64 → slotFault N j ≡ 0) → (j : ℕ) → j < 64 → slotFault M j ≡ 0
 
@@ -47,7 +68,6 @@ read-end N next left e stored none = record {
   nodes = refl;
   source = refl;
   sink = refl;
-  before = λ j l. refl;
   stored = stored;
   sound = λ z. z;
 }
@@ -58,14 +78,14 @@ empty-later N stored next k a b h l none j p q = withEdge-other N stored k a b l
 
 -- An edge is read, and then the rest.
 read-edge : (N M : Network) (next left k a b left′ : ℕ) (s : List ℕ) → next + left ≡ 64 → suc k + left′ ≡ 64 → Stored N → EmptyFrom N next
-    → next ≤ k → k < 64 → endFault (N .nodes) a b ≡ 0 → Read (withEdge N k a b) M (suc k) left′ s
-    → Read N M next left (0x43 ∷ k ∷ a ∷ b ∷ s)
+    → next ≤ k → k < 64 → endFault (N .nodes) a b ≡ 0 → ((j : ℕ) → j < suc k → slot M j ≡ slot (withEdge N k a b) j)
+    → Read (withEdge N k a b) M (suc k) left′ s → Read N M next left (0x43 ∷ k ∷ a ∷ b ∷ s)
 unfolding flatMap range withEdge slotFault
-read-edge N M next left k a b left′ s e e′ stored none h l f r =
+read-edge N M next left k a b left′ s e e′ stored none h l f kept r =
     let N′ : Network = withEdge N k a b in
-    let here : slot M k ≡ (true, a, b) = r .before k (omega arith) ∙ withEdge-same N stored k a b l in
+    let here : slot M k ≡ (true, a, b) = kept k (omega arith) ∙ withEdge-same N stored k a b l in
     let between : (j : ℕ) → next ≤ j → j < k → hasEdge M j ≡ false =
-    λ j p q. ap (λ (x : Slot). x .0) (r .before j (omega arith) ∙ withEdge-other N stored k a b l j (λ e. omega arith) ∙ none j p (omega arith)) in
+    λ j p q. ap (λ (x : Slot). x .0) (kept j (omega arith) ∙ withEdge-other N stored k a b l j (λ e. omega arith) ∙ none j p (omega arith)) in
     record {
       bytes =
           ap (λ c. 0x43 ∷ k ∷ a ∷ b ∷ c) (r .bytes)
@@ -74,21 +94,9 @@ read-edge N M next left k a b left′ s e e′ stored none h l f r =
       nodes = r .nodes;
       source = r .source;
       sink = r .sink;
-      before = λ j p. r .before j (omega arith) ∙ withEdge-other N stored k a b l j (λ e. omega arith);
       stored = r .stored;
-      sound = λ z. r .sound (λ j p. put z j p (ℕ-discrete j k));
+      sound = λ z. r .sound (withEdge-faultless N stored k a b l f z);
     }
-  where
-    put : ((j : ℕ) → j < 64 → slotFault N j ≡ 0) → (j : ℕ) → j < 64 → Dec (j ≡ k) → slotFault (withEdge N k a b) j ≡ 0
-    put z j p (yes q) = ap (slotFault (withEdge N k a b)) q ∙ slotFault-of (withEdge N k a b) k (withEdge-same N stored k a b l) ∙ f
-    put z j p (no d) = slotFault-of (withEdge N k a b) j (withEdge-other N stored k a b l j d) ∙ z j p
-
--- An answer that is accepted is no refusal, and tells its record.
-accept-network : {N M : Network} → accept N ≡ accept M → N ≡ M
-accept-network e = ap (λ (d : Decoded). d .network) e
-
-not-refused : {M : Network} {r : ℕ} → 0 < r → refuse r ≡ accept M → ⊥
-not-refused {M} {r} p e = let z : r ≡ 0 = ap (λ (d : Decoded). d .refusal) e in omega arith
 
 -- Whatever the walk accepts in so many turns was read from its own bytes.
 abbrev Reads : ℕ → Network → Type 0
@@ -104,9 +112,9 @@ reads-more turns M before N next left s t e stored none q = go (edge-view (N .no
         let shorter : length s ≡ suc (suc (suc (suc (length rest)))) = ap length p in
         let later : edges turns (withEdge N k a b) (suc k) rest ≡ accept M =
         sym (edges-edge turns N next s step ∙ ap (λ x. edges turns (withEdge N k a b) (suc k) (drop 4 x)) p) ∙ q in
-        rw p (read-edge N M next left k a b (63 - k) rest e (omega arith) stored none h l f
-        (before (withEdge N k a b) (suc k) (63 - k) rest (omega arith) (omega arith) (withEdge-stored N stored k a b l)
-        (empty-later N stored next k a b h l none) later))
+        let stored′ = withEdge-stored N stored k a b l in
+        rw p (read-edge N M next left k a b (63 - k) rest e (omega arith) stored none h l f (edges-keep turns (withEdge N k a b) M (suc k) rest stored′ later)
+        (before (withEdge N k a b) (suc k) (63 - k) rest (omega arith) (omega arith) stored′ (empty-later N stored next k a b h l none) later))
     go (end step p) =
         rw p (subst (λ (x : Network). Read N x next left (0x45 ∷ [])) (accept-network (sym (edges-end turns N next s step) ∙ q))
         (read-end N next left e stored none))
@@ -129,7 +137,7 @@ bare-empty n s t j l =
     let g : secondEnd (bare n s t) j ≡ 0 = getD-replicate 64 j 0 0 l in
     λ i. (p i, f i, g i)
 
-bare-stored : (n s t : ℕ) → Stored (bare n s t)
+pub bare-stored : (n s t : ℕ) → Stored (bare n s t)
 unfolding bare
 bare-stored n s t = record { firsts = refl; seconds = refl; edges = omega arith }
 

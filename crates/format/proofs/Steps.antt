@@ -13,8 +13,8 @@ use native.Mathlib.Omega.{arith}
 use lib.Dec.{T, ltb, eqb}
 use lib.ListN.{length, drop}
 use borrow.Author.Tests.{le-ltb, eq-eqb, ltb-false, eqb-true, not-false}
-use Rattle.network.specs.Record.{among, _when_, _then_, sizeFault, pairFault, terminalFault, endFault}
-use Rattle.network.proofs.Refusals.{then-none, none-then, when-none, none-when, then-among, when-among}
+use Rattle.network.specs.Record.{among, _when_, _then_, sizeFault, terminalFault, endFault}
+use Rattle.network.proofs.Refusals.{then-none, none-then, when-none, none-when, then-among, when-among, outside-among, terminals-among}
 use Rattle.format.specs.declared.Step.{Step}
 use Rattle.format.specs.Format.{readerRefusals, at, missing, unfit, numberFault, sizeRefusal, terminalsRefusal, edgeRefusal, endRefusal, sizeStep, terminalsStep, edgeStep}
 
@@ -100,7 +100,7 @@ pub data TerminalsView (n : ℕ) (s : List ℕ) : Type 0 where
   refused : (r : ℕ) → terminalsStep n s ≡ Step.Refused r → 0 < r → T (among readerRefusals r) → TerminalsView n s
 
 pub terminals-view : (n : ℕ) (s : List ℕ) → TerminalsView n s
-unfolding among terminalsStep terminalsRefusal pairFault
+unfolding among terminalsStep terminalsRefusal
 terminals-view n s = go (terminalsRefusal n s) refl
   where
     go : (r : ℕ) → terminalsRefusal n s ≡ r → TerminalsView n s
@@ -110,8 +110,7 @@ terminals-view n s = go (terminalsRefusal n s) refl
         (three s (f .1 .0) ∙ ap (λ c. c ∷ at s 1 ∷ at s 2 ∷ drop 3 s) (f .0)) (f .1 .1)
     go (suc r) e =
         TerminalsView.refused (suc r) (rw e) (omega arith)
-        (rw e at (command-among 0x53 3 s (terminalFault n (at s 1) (at s 2))
-        (then-among readerRefusals _ _ (when-among readerRefusals 5 _ tt) (when-among readerRefusals 6 _ tt))))
+        (rw e at (command-among 0x53 3 s (terminalFault n (at s 1) (at s 2)) (terminals-among readerRefusals n (at s 1) (at s 2) tt tt)))
 
 pub terminals-taken : (n a b : ℕ) (s : List ℕ) → terminalFault n a b ≡ 0
     → terminalsStep n (0x53 ∷ a ∷ b ∷ s) ≡ Step.Terminals a b
@@ -155,7 +154,7 @@ end-none (x ∷ y ∷ s) c e =
     absurd (let short = ltb-false 1 (length (x ∷ y ∷ s)) (when-none 3 (ltb 1 (length (x ∷ y ∷ s))) (omega arith) e) in omega arith)
 
 pub edge-view : (n next : ℕ) (s : List ℕ) → EdgeView n next s
-unfolding among edgeStep edgeRefusal endRefusal numberFault pairFault
+unfolding among edgeStep edgeRefusal endRefusal numberFault
 edge-view n next s = go (eqb (at s 0) 0x45) refl
   where
     at-end : eqb (at s 0) 0x45 ≡ true → (r : ℕ) → endRefusal s ≡ r → EdgeView n next s
@@ -173,7 +172,7 @@ edge-view n next s = go (eqb (at s 0) 0x45) refl
         EdgeView.refused (suc r) (rw (c, e)) (omega arith)
         (rw e at (command-among 0x43 4 s (numberFault next (at s 1) then endFault n (at s 2) (at s 3))
         (then-among readerRefusals _ _ (then-among readerRefusals _ _ (when-among readerRefusals 7 _ tt) (when-among readerRefusals 8 _ tt))
-        (then-among readerRefusals _ _ (when-among readerRefusals 9 _ tt) (when-among readerRefusals 10 _ tt)))))
+        (outside-among readerRefusals 9 n (at s 2) (at s 3) tt))))
 
     go : (b : Bool) → eqb (at s 0) 0x45 ≡ b → EdgeView n next s
     go true c = at-end c (endRefusal s) refl

@@ -125,7 +125,7 @@ told (Step.Refused r) = record { number = r; values = [] }
 
 -- The numbers that the reader can give.
 abbrev pub readerRefusals : List ℕ
-readerRefusals = 1 ∷ 2 ∷ 3 ∷ 4 ∷ 5 ∷ 6 ∷ 7 ∷ 8 ∷ 9 ∷ 10 ∷ []
+readerRefusals = 1 ∷ 2 ∷ 3 ∷ 4 ∷ 5 ∷ 6 ∷ 7 ∷ 8 ∷ 9 ∷ []
 
 abbrev pub accept : Network → Decoded
 accept N = record { refusal = 0; network = N }

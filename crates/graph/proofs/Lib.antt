@@ -14,3 +14,5 @@ pub mod Inside
 pub mod Relevant
 pub mod SourceSides
 pub mod Correspondence
+pub mod Agree
+pub mod Lists

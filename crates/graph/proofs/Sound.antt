@@ -1,9 +1,9 @@
 -- Sound networks: what the record test says of the nodes and edges of an accepted record.
 -- Assumes nothing.
 --
---   Sound N          edges below 64 with ends below the node count, no loop, no more nodes than there may be, and two terminals among them
+--   Sound N          edges below 64 with ends below the node count, no more nodes than there may be, and two terminals among them
 --                    [working: accepted-sound (graph/proofs/Sound)]
-use mathlib.Core.Path.{_≡_, sym, _∙_}
+use mathlib.Core.Path.{_≡_}
 use mathlib.Core.Logic.{inl, inr, _≢_}
 use Prim.Native.Nat.{ℕ, _≤_, _<_}
 use native.Mathlib.Omega.{arith}
@@ -13,34 +13,31 @@ use Rattle.bitset.proofs.Sets.{member-lt}
 use Rattle.node_set.specs.Width.{nodeWidth}
 use Rattle.network.specs.declared.Network.{Network}
 use Rattle.network.specs.Record.{hasEdge, firstEnd, secondEnd, slotFault, faultOf, Stored, present}
-use Rattle.network.proofs.Refusals.{size-none, pair-none}
+use Rattle.network.proofs.Refusals.{size-none, outside-none, terminals-none}
 use Rattle.network.proofs.Slots.{accepted}
 use Rattle.graph.specs.Reach.{Bounded}
 use Rattle.graph.specs.Paths.{Joins}
 
--- Edges below 64 with ends below the node count, no loop, no more nodes than there may be, and two terminals among them.
+-- Edges below 64 with ends below the node count, no more nodes than there may be, and two terminals among them.
 pub record Sound (N : Network) : Type 0 where
   pub bounded : Bounded N
   pub small : N .nodes ≤ nodeWidth
   pub source-lt : N .source < N .nodes
   pub sink-lt : N .sink < N .nodes
   pub differ : N .source ≢ N .sink
-  pub loopless : (e u : ℕ) → Joins N e u u → ⊥
 
 -- The slot of a present edge keeps the rule of its two ends.
-slot-kept : (N : Network) (e : ℕ) → e ∈ present N → slotFault N e ≡ 0
-    → (firstEnd N e < N .nodes) × (secondEnd N e < N .nodes) × (firstEnd N e ≢ secondEnd N e)
+slot-kept : (N : Network) (e : ℕ) → e ∈ present N → slotFault N e ≡ 0 → (firstEnd N e < N .nodes) × (secondEnd N e < N .nodes)
 unfolding slotFault
-slot-kept N e m none =
-    pair-none 9 10 (N .nodes) (firstEnd N e) (secondEnd N e) (omega arith) (omega arith) (rw (is-true (hasEdge N e) m, slotFault) at none)
+slot-kept N e m none = outside-none 9 (N .nodes) (firstEnd N e) (secondEnd N e) (omega arith) (rw (is-true (hasEdge N e) m, slotFault) at none)
 
 -- An accepted record is a sound network.
 pub accepted-sound : (N : Network) → Stored N → faultOf N ≡ 0 → Sound N
 unfolding Joins
 accepted-sound N S ok =
     let rules = accepted N ok in
-    let terminals = pair-none 5 6 (N .nodes) (N .source) (N .sink) (omega arith) (omega arith) (rules .terminals) in
-    let slot : (e : ℕ) → e ∈ present N → (firstEnd N e < N .nodes) × (secondEnd N e < N .nodes) × (firstEnd N e ≢ secondEnd N e) =
+    let terminals = terminals-none (N .nodes) (N .source) (N .sink) (rules .terminals) in
+    let slot : (e : ℕ) → e ∈ present N → (firstEnd N e < N .nodes) × (secondEnd N e < N .nodes) =
     λ e m. slot-kept N e m (rules .slot-none e (member-lt 64 (present N) e (S .edges) m)) in
     record {
       bounded = record {
@@ -51,5 +48,4 @@ accepted-sound N S ok =
       source-lt = terminals .0;
       sink-lt = terminals .1;
       differ = terminals .2;
-      loopless = λ e u j. slot e (j .0) .2 (elim (j .1) [ inl q ↦ q .0 ∙ sym (q .1) | inr q ↦ q .0 ∙ sym (q .1) ]);
     }

@@ -11,3 +11,4 @@ pub mod Refusals
 pub mod Call
 pub mod Meaning
 pub mod Given
+pub mod Agree

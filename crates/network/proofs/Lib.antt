@@ -3,3 +3,4 @@ pub mod Refusals
 pub mod Slots
 pub mod Rules
 pub mod Numbers
+pub mod Ends

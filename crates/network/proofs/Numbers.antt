@@ -8,8 +8,8 @@ use lib.Dec.{T, ltb}
 use Rattle.sequences.specs.Words.{range}
 use Rattle.node_set.specs.Width.{nodeWidth}
 use Rattle.network.specs.declared.Network.{Network}
-use Rattle.network.specs.Record.{_when_, _then_, among, sizeFault, terminalFault, endFault, absentFault, hasEdge, firstEnd, secondEnd, slotFault, slotsFault, recordRefusals, faultUpTo, faultOf}
-use Rattle.network.proofs.Refusals.{then-among, when-among, pair-among}
+use Rattle.network.specs.Record.{_then_, among, sizeFault, terminalFault, endFault, absentFault, hasEdge, firstEnd, secondEnd, slotFault, slotsFault, recordRefusals, faultUpTo, faultOf}
+use Rattle.network.proofs.Refusals.{then-among, when-among, outside-among, terminals-among}
 
 abbrev Kept : ℕ → Type 0
 Kept r = T (among recordRefusals r)
@@ -20,7 +20,7 @@ unfolding among slotFault absentFault
 slot-among N k = go (hasEdge N k)
   where
     go : (b : Bool) → Kept (cond b (endFault (N .nodes) (firstEnd N k) (secondEnd N k)) (absentFault (firstEnd N k) (secondEnd N k)))
-    go true = pair-among recordRefusals 9 10 (N .nodes) (firstEnd N k) (secondEnd N k) tt tt
+    go true = outside-among recordRefusals 9 (N .nodes) (firstEnd N k) (secondEnd N k) tt
     go false = when-among recordRefusals 13 (ltb 0 (firstEnd N k) || ltb 0 (secondEnd N k)) tt
 
 -- The first fault of some slots.
@@ -37,7 +37,7 @@ fault-among N =
     let terminals : ℕ = terminalFault (N .nodes) (N .source) (N .sink) in
     then-among recordRefusals (sizeFault nodeWidth (N .nodes)) (terminals then slotsFault N 0 64)
     (when-among recordRefusals 4 (ltb (N .nodes) 2 || ltb nodeWidth (N .nodes)) tt)
-    (then-among recordRefusals terminals (slotsFault N 0 64) (pair-among recordRefusals 5 6 (N .nodes) (N .source) (N .sink) tt tt) (slots-among N 64 0))
+    (then-among recordRefusals terminals (slotsFault N 0 64) (terminals-among recordRefusals (N .nodes) (N .source) (N .sink) tt tt) (slots-among N 64 0))
 
 -- So a number that is not among them is no record's fault.
 pub not-fault : (N : Network) (r : ℕ) → (T (among recordRefusals r) → ⊥) → faultOf N ≡ r → ⊥

@@ -9,7 +9,7 @@ use native.Mathlib.Omega.{arith}
 use borrow.Author.Tests.{ltb-false, leb-false, eqb-false}
 use lib.Dec.{T, leb, ltb, eqb}
 use Rattle.sequences.proofs.Tests.{T-or}
-use Rattle.network.specs.Record.{_when_, _then_, among, unlessRefused, sizeFault, pairFault}
+use Rattle.network.specs.Record.{_when_, _then_, among, unlessRefused, sizeFault, outsideFault, terminalFault}
 
 -- Two rules in a row find no fault exactly if neither does.
 pub then-none : (r s : ℕ) → (r then s) ≡ 0 → (r ≡ 0) × (s ≡ 0)
@@ -47,6 +47,18 @@ pub some-when : (r : ℕ) {b : Bool} → b ≡ true → (r when b) ≡ r
 unfolding _when_
 some-when r e = ap (λ b. r when b) e
 
+-- What neither of two rules gives, they do not give in a row.
+pub then-other : (r : ℕ) {s k : ℕ} → (r ≡ k → ⊥) → (s ≡ k → ⊥) → (r then s) ≡ k → ⊥
+unfolding _then_
+then-other zero p q e = q e
+then-other (suc r) p q e = p e
+
+-- A rule gives its own number or none.
+pub when-other : (r : ℕ) (b : Bool) {k : ℕ} → (r ≡ k → ⊥) → 0 < k → (r when b) ≡ k → ⊥
+unfolding _when_
+when-other r true p h e = p e
+when-other r false p h e = omega (arith, e)
+
 -- Without a refusal a call gives the one, with a refusal the other.
 pub refused-none : {A : Type 0} {r : ℕ} (a b : A) → r ≡ 0 → unlessRefused r a b ≡ a
 refused-none a b e = ap (λ r. unlessRefused r a b) e
@@ -80,11 +92,14 @@ unfolding _when_
 when-among l r true p = p
 when-among l r false p = among-none l
 
--- So is that of a rule for two nodes.
-pub pair-among : (l : List ℕ) (x y n a b : ℕ) → T (among l x) → T (among l y) → T (among l (pairFault x y n a b))
-unfolding pairFault
-pair-among l x y n a b p q =
-    then-among l (x when (leb n a || leb n b)) (y when eqb a b) (when-among l x (leb n a || leb n b) p) (when-among l y (eqb a b) q)
+-- So is that of two nodes that must be below the node count.
+pub outside-among : (l : List ℕ) (r n a b : ℕ) → T (among l r) → T (among l (outsideFault r n a b))
+unfolding outsideFault
+outside-among l r n a b p = when-among l r (leb n a || leb n b) p
+
+-- So is that of the terminals.
+pub terminals-among : (l : List ℕ) (n a b : ℕ) → T (among l 5) → T (among l 6) → T (among l (terminalFault n a b))
+terminals-among l n a b p q = then-among l (outsideFault 5 n a b) (6 when eqb a b) (outside-among l 5 n a b p) (when-among l 6 (eqb a b) q)
 
 -- ---- what the rules say of the values that keep them
 
@@ -95,10 +110,16 @@ size-none most n e =
     let q = or-none (ltb n 2) (ltb most n) (when-none 4 (ltb n 2 || ltb most n) (omega arith) e) in
     (ltb-false n 2 (q .0), ltb-false most n (q .1))
 
--- Two nodes without a fault are below the node count, and differ.
-pub pair-none : (x y n a b : ℕ) → 0 < x → 0 < y → pairFault x y n a b ≡ 0 → (a < n) × (b < n) × (a ≡ b → ⊥)
-unfolding pairFault
-pair-none x y n a b h k e =
-    let p = then-none (x when (leb n a || leb n b)) (y when eqb a b) e in
-    let q = or-none (leb n a) (leb n b) (when-none x (leb n a || leb n b) h (p .0)) in
-    (leb-false n a (q .0), leb-false n b (q .1), eqb-false a b (when-none y (eqb a b) k (p .1)))
+-- Two nodes without a fault are below the node count.
+pub outside-none : (r n a b : ℕ) → 0 < r → outsideFault r n a b ≡ 0 → (a < n) × (b < n)
+unfolding outsideFault
+outside-none r n a b h e =
+    let q = or-none (leb n a) (leb n b) (when-none r (leb n a || leb n b) h e) in
+    (leb-false n a (q .0), leb-false n b (q .1))
+
+-- Terminals without a fault are below the node count, and differ.
+pub terminals-none : (n a b : ℕ) → terminalFault n a b ≡ 0 → (a < n) × (b < n) × (a ≡ b → ⊥)
+terminals-none n a b e =
+    let p = then-none (outsideFault 5 n a b) (6 when eqb a b) e in
+    let q = outside-none 5 n a b (omega arith) (p .0) in
+    (q .0, q .1, eqb-false a b (when-none 6 (eqb a b) (omega arith) (p .1)))

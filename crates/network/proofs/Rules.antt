@@ -12,9 +12,9 @@ use Rattle.bitset.specs.Members.{_∈_}
 use Rattle.bitset.proofs.Sets.{∈-dec}
 use Rattle.node_set.specs.Width.{nodeWidth}
 use Rattle.network.specs.declared.Network.{Network}
-use Rattle.network.specs.Record.{_when_, sizeFault, pairFault, endFault, absentFault, hasEdge, firstEnd, secondEnd, slotFault, faultOf, present, Stored}
+use Rattle.network.specs.Record.{sizeFault, outsideFault, terminalFault, endFault, absentFault, hasEdge, firstEnd, secondEnd, slotFault, faultOf, present, Stored}
 use Rattle.network.specs.Rules.{Rules, FaultMeans}
-use Rattle.network.proofs.Refusals.{none-then, when-none, none-when, or-none, size-none, pair-none}
+use Rattle.network.proofs.Refusals.{none-then, when-none, none-when, or-none, size-none, outside-none, terminals-none}
 use Rattle.network.proofs.Slots.{Accepted, accepted, accepted-none}
 
 -- ---- values that keep a rule have no fault
@@ -27,9 +27,12 @@ pub none-size : (most n : ℕ) → 2 ≤ n → n ≤ most → sizeFault most n �
 unfolding sizeFault
 none-size most n h k = none-when 4 (none-or (le-ltb n 2 h) (le-ltb most n k))
 
-none-pair : (x y n a b : ℕ) → a < n → b < n → (a ≡ b → ⊥) → pairFault x y n a b ≡ 0
-unfolding pairFault
-none-pair x y n a b h k differ = none-then _ (none-when x (none-or (lt-leb n a h) (lt-leb n b k))) ∙ none-when y (ne-eqb a b differ)
+pub none-outside : (r n a b : ℕ) → a < n → b < n → outsideFault r n a b ≡ 0
+unfolding outsideFault
+none-outside r n a b h k = none-when r (none-or (lt-leb n a h) (lt-leb n b k))
+
+none-terminals : (n a b : ℕ) → a < n → b < n → (a ≡ b → ⊥) → terminalFault n a b ≡ 0
+none-terminals n a b h k differ = none-then _ (none-outside 5 n a b h k) ∙ none-when 6 (ne-eqb a b differ)
 
 none-absent : (a b : ℕ) → a ≡ 0 → b ≡ 0 → absentFault a b ≡ 0
 unfolding absentFault
@@ -67,21 +70,21 @@ fault-rules N = (kept, λ r. accepted-none N (faultless r))
     kept e =
         let a : Accepted N = accepted N e in record {
           size = size-none nodeWidth (N .nodes) (a .size);
-          terminals = pair-none 5 6 (N .nodes) (N .source) (N .sink) (omega arith) (omega arith) (a .terminals);
-          ends = λ k l m. pair-none 9 10 (N .nodes) (firstEnd N k) (secondEnd N k) (omega arith) (omega arith) (rw (slot-present N k m) at (a .slot-none k l));
+          terminals = terminals-none (N .nodes) (N .source) (N .sink) (a .terminals);
+          ends = λ k l m. outside-none 9 (N .nodes) (firstEnd N k) (secondEnd N k) (omega arith) (rw (slot-present N k m) at (a .slot-none k l));
           absent = λ k l n. absent-none (firstEnd N k) (secondEnd N k) (rw (slot-absent N k n) at (a .slot-none k l));
         }
 
     slot-none : Rules N → (k : ℕ) → k < 64 → Dec (k ∈ present N) → slotFault N k ≡ 0
     slot-none r k l (yes m) =
         let p = r .ends k l m in
-        slot-present N k m ∙ none-pair 9 10 (N .nodes) (firstEnd N k) (secondEnd N k) (p .0) (p .1) (p .2)
+        slot-present N k m ∙ none-outside 9 (N .nodes) (firstEnd N k) (secondEnd N k) (p .0) (p .1)
     slot-none r k l (no n) = let p = r .absent k l n in slot-absent N k n ∙ none-absent (firstEnd N k) (secondEnd N k) (p .0) (p .1)
 
     faultless : Rules N → Accepted N
     faultless r = record {
       size = none-size nodeWidth (N .nodes) (r .size .0) (r .size .1);
-      terminals = none-pair 5 6 (N .nodes) (N .source) (N .sink) (r .terminals .0) (r .terminals .1) (r .terminals .2);
+      terminals = none-terminals (N .nodes) (N .source) (N .sink) (r .terminals .0) (r .terminals .1) (r .terminals .2);
       slot-none = λ k l. slot-none r k l (∈-dec k (present N));
     }
 

@@ -16,7 +16,7 @@ use Rattle.sequences.specs.Words.{range}
 use Rattle.bitset.proofs.Members.{has-insert, insert-lt}
 use Rattle.node_set.specs.Width.{nodeWidth}
 use Rattle.network.specs.declared.Network.{Network}
-use Rattle.network.specs.Record.{_then_, Stored, Slot, slot, slotFaultOf, slotFault, slotsFault, sizeFault, terminalFault, faultUpTo, faultOf, hasEdge, firstEnd, secondEnd, withEdge, present}
+use Rattle.network.specs.Record.{_then_, Stored, Slot, slot, slotFaultOf, slotFault, slotsFault, sizeFault, terminalFault, endFault, faultUpTo, faultOf, hasEdge, firstEnd, secondEnd, withEdge, present}
 use Rattle.network.proofs.Refusals.{then-none, none-then}
 
 abbrev pub empty : Slot
@@ -53,6 +53,15 @@ module _ (N : Network) (stored : Stored N) (k a b : ℕ) (l : k < 64) where
     seconds = length-set (N .second) k b ∙ stored .seconds;
     edges = insert-lt 64 (stored .edges) l;
   }
+
+  -- An edge whose ends have no fault leaves the slots without one.
+  pub withEdge-faultless : endFault (N .nodes) a b ≡ 0 → ((j : ℕ) → j < 64 → slotFault N j ≡ 0) → (j : ℕ) → j < 64 → slotFault (withEdge N k a b) j ≡ 0
+  unfolding withEdge slotFault
+  withEdge-faultless f z j p = go (ℕ-discrete j k)
+    where
+      go : Dec (j ≡ k) → slotFault (withEdge N k a b) j ≡ 0
+      go (yes q) = ap (slotFault (withEdge N k a b)) q ∙ slotFault-of (withEdge N k a b) k withEdge-same ∙ f
+      go (no d) = slotFault-of (withEdge N k a b) j (withEdge-other j d) ∙ z j p
 
 -- ---- all slots
 

@@ -1,3 +1,4 @@
 -- The definitions that the contracts of `network` cite.
 pub mod Record
 pub mod Rules
+pub mod Ends

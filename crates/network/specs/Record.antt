@@ -8,9 +8,9 @@
 --
 -- The rules of the paper's table "Who causes a refusal":
 --   sizeFault most n     that of the point count (4), where so many points are the most
---   pairFault outside same n a b     that of two points below the point count n, else `outside`, that differ, else `same`
+--   outsideFault r n a b     the refusal r of two points of which one is not below the point count n
 --   terminalFault n a b      that of server and room (5, 6)
---   endFault n a b   that of a cable's two ends (9, 10)
+--   endFault n a b   that of a cable's two ends (9); they may be one point
 --   absentFault a b  that of an absent cable's two ends (13)
 --
 -- The record test:
@@ -71,17 +71,17 @@ unlessRefused (suc r) a b = b
 unfoldable pub sizeFault : ℕ → ℕ → ℕ
 sizeFault most n = 4 when (ltb n 2 || ltb most n)
 
--- Two points that must be below the point count, else the first refusal, and differ, else the second.
-unfoldable pub pairFault : ℕ → ℕ → ℕ → ℕ → ℕ → ℕ
-pairFault outside same n a b = outside when (leb n a || leb n b) then same when eqb a b
+-- Two points that must both be below the point count.
+unfoldable pub outsideFault : ℕ → ℕ → ℕ → ℕ → ℕ
+outsideFault r n a b = r when (leb n a || leb n b)
 
 -- 5: server or room not below the point count; 6: server and room the same point
 abbrev pub terminalFault : ℕ → ℕ → ℕ → ℕ
-terminalFault = pairFault 5 6
+terminalFault n a b = outsideFault 5 n a b then 6 when eqb a b
 
--- 9: a cable end not below the point count; 10: both ends of a cable at one point
+-- 9: a cable end not below the point count
 abbrev pub endFault : ℕ → ℕ → ℕ → ℕ
-endFault = pairFault 9 10
+endFault = outsideFault 9
 
 -- 13: an absent cable with an end not 0
 unfoldable pub absentFault : ℕ → ℕ → ℕ
@@ -114,7 +114,7 @@ Slot = Bool × ℕ × ℕ
 abbrev pub slot : Network → ℕ → Slot
 slot N k = (hasEdge N k, firstEnd N k, secondEnd N k)
 
--- 9 and 10 if present, 13 if absent
+-- 9 if present, 13 if absent
 abbrev pub slotFaultOf : ℕ → Slot → ℕ
 slotFaultOf n s = cond (s .0) (endFault n (s .1) (s .2)) (absentFault (s .1) (s .2))
 
@@ -127,7 +127,7 @@ slotsFault N k n = foldr _then_ 0 (map (slotFault N) (range k n))
 
 -- The numbers that the record test can give.
 abbrev pub recordRefusals : List ℕ
-recordRefusals = 4 ∷ 5 ∷ 6 ∷ 9 ∷ 10 ∷ 13 ∷ []
+recordRefusals = 4 ∷ 5 ∷ 6 ∷ 9 ∷ 13 ∷ []
 
 -- The record test: 4, 5, 6, then slot by slot.
 unfoldable pub faultUpTo : ℕ → Network → ℕ

@@ -14,8 +14,7 @@ use Rattle.network.specs.Record.{firstEnd, secondEnd, present, Stored}
 pub record Rules (N : Network) : Type 0 where
   pub size : (2 ≤ N .nodes) × (N .nodes ≤ nodeWidth)
   pub terminals : (N .source < N .nodes) × (N .sink < N .nodes) × (N .source ≡ N .sink → ⊥)
-  pub ends : (k : ℕ) → k < 64 → k ∈ present N
-      → (firstEnd N k < N .nodes) × (secondEnd N k < N .nodes) × (firstEnd N k ≡ secondEnd N k → ⊥)
+  pub ends : (k : ℕ) → k < 64 → k ∈ present N → (firstEnd N k < N .nodes) × (secondEnd N k < N .nodes)
   pub absent : (k : ℕ) → k < 64 → (k ∈ present N → ⊥) → (firstEnd N k ≡ 0) × (secondEnd N k ≡ 0)
 
 pub record FaultMeans (N : Network) (r : ℕ) : Type 0 where

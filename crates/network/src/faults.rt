@@ -3,14 +3,12 @@ use crate::Network;
 use crate::refusal::ABSENT_EDGE_NOT_ZERO;
 use crate::refusal::BAD_NODE_COUNT;
 use crate::refusal::END_OUTSIDE;
-use crate::refusal::SAME_ENDS;
 use crate::refusal::SAME_TERMINALS;
 use crate::refusal::TERMINAL_OUTSIDE;
 use node_set::NODE_WIDTH;
 ghost use mathlib.Core.Path.{_≡_};
-ghost use Prim.Native.Nat.{_<_};
 ghost use Rattle.node_set.specs.Width.{nodeWidth};
-ghost use Rattle.network.specs.Record.{sizeFault, pairFault, terminalFault, endFault, absentFault, slotFaultOf, slotsFault, faultOf};
+ghost use Rattle.network.specs.Record.{sizeFault, outsideFault, terminalFault, endFault, absentFault, slotFaultOf, slotsFault, faultOf};
 ghost use Rattle.network.specs.Rules.{FaultMeans};
 
 pub fn size_fault(nodes: u8) -> u8
@@ -25,19 +23,15 @@ pub fn size_fault(nodes: u8) -> u8
     0
 }
 
-// The fault of two nodes that must be below the node count, else `outside`, and differ, else `same`.
-fn pair_fault(outside: u8, same: u8, nodes: u8, a: u8, b: u8) -> u8
-    requires { ⌜ 0 < outside ⌝ }
-    ensures { λ r. ⌜ r ≡ pairFault outside same nodes a b ⌝ }
+// The fault of two nodes that must both be below the node count.
+fn outside_fault(refusal: u8, nodes: u8, a: u8, b: u8) -> u8
+    ensures { λ r. ⌜ r ≡ outsideFault refusal nodes a b ⌝ }
 {
     if nodes <= a {
-        return outside;
+        return refusal;
     }
     if nodes <= b {
-        return outside;
-    }
-    if a == b {
-        return same;
+        return refusal;
     }
     0
 }
@@ -45,13 +39,21 @@ fn pair_fault(outside: u8, same: u8, nodes: u8, a: u8, b: u8) -> u8
 pub fn terminal_fault(nodes: u8, source: u8, sink: u8) -> u8
     ensures { λ r. ⌜ r ≡ terminalFault nodes source sink ⌝ }
 {
-    pair_fault(TERMINAL_OUTSIDE, SAME_TERMINALS, nodes, source, sink)
+    let outside = outside_fault(TERMINAL_OUTSIDE, nodes, source, sink);
+    if outside != 0 {
+        return outside;
+    }
+    if source == sink {
+        return SAME_TERMINALS;
+    }
+    0
 }
 
+// An edge's two ends may be one node: a loop.
 pub fn end_fault(nodes: u8, first: u8, second: u8) -> u8
     ensures { λ r. ⌜ r ≡ endFault nodes first second ⌝ }
 {
-    pair_fault(END_OUTSIDE, SAME_ENDS, nodes, first, second)
+    outside_fault(END_OUTSIDE, nodes, first, second)
 }
 
 fn absent_fault(first: u8, second: u8) -> u8

@@ -21,8 +21,6 @@ pub const EDGE_NUMBER_NOT_RISING: u8 = 8; // cable number not above the one befo
 
 pub const END_OUTSIDE: u8 = 9; // a cable end not below the point count
 
-pub const SAME_ENDS: u8 = 10; // both ends of a cable at one point
-
 // By the program that calls.
 pub const ROWS_DIFFER: u8 = 11; // cut rows and side rows differ in number
 

@@ -115,6 +115,12 @@ impl Case<'_> {
             set,
         }
     }
+
+    /// Whether a cable of the record or of the plan has both ends at one point.
+    pub fn has_loop(&self) -> bool {
+        let is_loop = |command: &[u8]| command[0] == 0x43 && command[2] == command[3];
+        self.record.loops() != 0 || cables(self.plan).any(is_loop)
+    }
 }
 
 /// The bytes still to be taken.
@@ -167,6 +173,11 @@ pub fn record(fields: &[u8; FIELDS]) -> Record {
     record
 }
 
+/// The bytes in the places of cables' commands.
+fn cables(plan: &[u8]) -> impl Iterator<Item = &[u8]> {
+    plan.get(5..).unwrap_or_default().chunks_exact(4)
+}
+
 /// A record without fault, whatever the bytes: they are taken for the commands of a plan in their
 /// places, and values that are not fit are made so. A plan without fault gives its own record.
 pub fn fitted(body: &[u8]) -> Record {
@@ -177,9 +188,9 @@ pub fn fitted(body: &[u8]) -> Record {
     };
     let (source, sink) = apart(nodes, at(3), at(4));
     let mut fitted = Record::bare(nodes, source, sink);
-    for command in body.get(5..).unwrap_or_default().chunks_exact(4) {
-        let (first, second) = apart(nodes, command[2], command[3]);
-        fitted = fitted.with(usize::from(command[1]) % SLOTS, first, second);
+    for command in cables(body) {
+        let edge = usize::from(command[1]) % SLOTS;
+        fitted = fitted.with(edge, command[2] % nodes, command[3] % nodes);
     }
     fitted
 }

@@ -4,7 +4,8 @@ use std::fmt;
 
 use crate::answers::Part;
 use crate::answers::Verdict::{Minimal, NotCut, NotMinimal};
-use crate::record::MOST_NODES;
+use crate::brute::members;
+use crate::record::{Record, MOST_NODES};
 use crate::reference::{FAULTS, READING};
 use crate::tally::{Tally, Verdicts};
 
@@ -27,6 +28,10 @@ pub struct Counts {
     /// Of the longer ones those with a useful point above 31, and the most useful points.
     pub high_points: u64,
     pub most_points: u32,
+    /// Halls with a loop, those with a loop at a useful point, and those to which one was added.
+    pub looped: u64,
+    pub useful_looped: u64,
+    pub loops_added: u64,
 }
 
 impl Counts {
@@ -43,7 +48,15 @@ impl Counts {
         self.most_points = self.most_points.max(part.nodes.count_ones());
     }
 
-    /// Every refusal of every function occurred, every verdict, and short and long lists.
+    /// Notes a hall with a loop.
+    pub fn looped(&mut self, hall: &Record, part: Part) {
+        let useful = |edge: usize| part.nodes >> hall.first[edge] & 1 == 1;
+        self.looped += 1;
+        self.useful_looped += u64::from(members(hall.loops()).any(useful));
+    }
+
+    /// Every refusal of every function occurred and no other, every verdict, short and long lists,
+    /// and loops.
     pub fn assert_wide(&self) {
         for (tally, of_the_plan, more) in [
             (&self.decode, READING, &[][..]),
@@ -64,6 +77,9 @@ impl Counts {
         assert!(self.most_rows >= 2_000, "{self}");
         assert!(self.high_points >= 4_000, "{self}");
         assert_eq!(self.most_points, MOST_NODES.into(), "{self}");
+        assert!(self.looped >= 10_000, "{self}");
+        assert!(self.useful_looped >= 8_000, "{self}");
+        assert!(self.loops_added >= 20_000, "{self}");
     }
 }
 
@@ -92,13 +108,17 @@ impl fmt::Display for Counts {
         write!(
             f,
             " none ({}); judged: {not} no cut, {more} not minimal, {minimal} minimal; halls listed: \
-             {} with one row, {} with up to {}, {} of them with a useful point above 31; up to {} useful points",
+             {} with one row, {} with up to {}, {} of them with a useful point above 31; up to {} useful points; \
+             {} halls with a loop, {} of them with one at a useful point, {} with one added",
             all.of(0),
             self.short_lists,
             self.longer_lists,
             self.most_rows,
             self.high_points,
-            self.most_points
+            self.most_points,
+            self.looped,
+            self.useful_looped,
+            self.loops_added
         )
     }
 }

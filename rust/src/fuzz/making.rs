@@ -71,9 +71,9 @@ fn body(rng: &mut Rng) -> (u8, Vec<u8>) {
     }
 }
 
-/// A hall: with a name, small, or large.
+/// A hall: with a name, small, or large, some with loops added.
 fn hall(rng: &mut Rng) -> Record {
-    match rng.below(8) {
+    let hall = match rng.below(8) {
         0 | 1 => {
             let hall = rng.pick(&NAMED)();
             match rng.below(4) {
@@ -93,12 +93,20 @@ fn hall(rng: &mut Rng) -> Record {
         }
         5 | 6 => plans::large(rng),
         _ => plans::record(rng),
+    };
+    match rng.once_in(4) {
+        true => {
+            let loops = 1 + rng.below(5);
+            plans::with_loops(rng, &hall, loops)
+        }
+        false => hall,
     }
 }
 
 /// The paper's halls, and patterns of every size.
-const NAMED: [fn() -> Record; 29] = [
+const NAMED: [fn() -> Record; 30] = [
     halls::bridge,
+    halls::bridge_with_loops,
     halls::bar_cable,
     halls::spur,
     halls::hanging_triangle,

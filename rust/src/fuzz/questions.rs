@@ -7,7 +7,7 @@ use crate::lent;
 use crate::record::Record;
 use crate::reference::LONGEST_PLAN;
 use crate::rng::Rng;
-use crate::{brute, compare, sides};
+use crate::{brute, compare, plans, sides};
 
 /// The longest list that the reference makes, so that it answers soon whatever the hall. A hall
 /// with more cuts than that gets no more rows than that, and the answer can only be 12.
@@ -43,32 +43,68 @@ fn on_the_record(case: &Case, counts: &mut Counts) {
     let buffer = rng.bytes(case.buffer.measured(needed_bytes(record), LONGEST_PLAN));
     counts.encode.count(compare::encode(record, &buffer));
 
-    counts.relevant.count(compare::relevant(record, known.part));
+    part_and_list(case, record, &known, &mut rng, counts);
 
-    let rows = known.rows.as_deref();
-    let cuts: Vec<u64> = rows.iter().copied().flatten().map(|row| row.cut).collect();
+    let cuts: Vec<u64> = known.rows.iter().flatten().map(|row| row.cut).collect();
     for set in sets(case, &cuts) {
         // A cable not present is refused before the verdict.
         let verdict = match fault == 0 && set & !record.present == 0 {
             true => known.verdict(record, set),
             false => Verdict::NotCut,
         };
-        let number = compare::classify(record, set, verdict);
-        counts.classify.count(number);
-        if number == 0 {
-            counts.verdicts.count(verdict);
-        }
+        judging(record, set, verdict, counts);
     }
 
-    for (cut_rows, side_rows) in lent_rows(case, rows.map(<[Row]>::len), known.ample) {
-        let (cuts, sides) = lent::stale_rows(&mut rng, cut_rows, side_rows);
-        counts
-            .list
-            .count(compare::list(record, rows, &cuts, &sides));
+    if fault == 0 {
+        other_loops(case, &known, &mut rng, counts);
     }
     if !cuts.is_empty() {
         counts.listed(cuts.len(), known.part);
         widths(&cuts, counts);
+    }
+}
+
+/// Asks for the useful part and the list of a record of which the same is known as of the case's.
+fn part_and_list(case: &Case, record: &Record, known: &Known, rng: &mut Rng, counts: &mut Counts) {
+    counts.relevant.count(compare::relevant(record, known.part));
+
+    let rows = known.rows.as_deref();
+    for (cut_rows, side_rows) in lent_rows(case, rows.map(<[Row]>::len), known.ample) {
+        let (cuts, sides) = lent::stale_rows(rng, cut_rows, side_rows);
+        counts
+            .list
+            .count(compare::list(record, rows, &cuts, &sides));
+    }
+}
+
+fn judging(record: &Record, set: u64, verdict: Verdict, counts: &mut Counts) {
+    let number = compare::classify(record, set, verdict);
+    counts.classify.count(number);
+    if number == 0 {
+        counts.verdicts.count(verdict);
+    }
+}
+
+/// An accepted hall has the same useful part and the same list without its loops, and with one loop
+/// more. A minimal cut is then one still, and none together with the loop.
+fn other_loops(case: &Case, known: &Known, rng: &mut Rng, counts: &mut Counts) {
+    let record = &case.record;
+    let loops = record.loops();
+    if loops != 0 {
+        counts.looped(record, known.part);
+        part_and_list(case, &record.clone().without(loops), known, rng, counts);
+    }
+
+    let more = plans::with_loops(rng, record, 1);
+    let added = more.present & !record.present;
+    if added != 0 {
+        counts.loops_added += 1;
+        part_and_list(case, &more, known, rng, counts);
+        if let Some(rows) = &known.rows {
+            let cut = rng.pick(rows).cut;
+            judging(&more, cut, Verdict::Minimal, counts);
+            judging(&more, cut | added, Verdict::NotMinimal, counts);
+        }
     }
 }
 

@@ -1,0 +1,132 @@
+-- Loops: they lie on no route and in no minimal cut, to add one changes no list, and none is refused.
+-- Assumes what the code's types say of the records.
+use mathlib.Core.Path.{_≡_, refl, sym, ap, ap₂, subst, _∙_}
+use mathlib.Core.Bool.{true, false, not}
+use mathlib.Core.List.{List}
+use mathlib.Core.Logic.{_⊎_, inl, inr, _↔_, _≢_}
+use Prim.Native.Nat.{ℕ, _<_}
+use native.Mathlib.Decide.{ℕ-discrete}
+use native.Mathlib.Omega.{arith}
+use lib.Dec.{T, ltb, eqb}
+use lib.ListN.{length}
+use Rattle.bitset.specs.Members.{_∈_}
+use Rattle.network.specs.declared.Network.{Network}
+use Rattle.network.specs.Record.{_when_, among, Stored, Slot, slot, faultOf, withEdge, present}
+use Rattle.network.specs.Ends.{Loop}
+use Rattle.network.proofs.Refusals.{then-other, when-other}
+use Rattle.network.proofs.Rules.{none-outside}
+use Rattle.network.proofs.Slots.{Accepted, accepted, accepted-none, withEdge-same, withEdge-other, withEdge-stored, withEdge-faultless}
+use Rattle.network.proofs.Numbers.{not-fault}
+use Rattle.network.proofs.Ends.{loop-ends}
+use Rattle.format.specs.Format.{encodeRefusal, encodedBy}
+use Rattle.format.proofs.Reading.{decode-answer}
+use Rattle.format.proofs.Writing.{encode-decode}
+use Rattle.graph.specs.Paths.{Joins}
+use Rattle.graph.proofs.Sound.{accepted-sound}
+use Rattle.graph.proofs.Loops.{loop-minpath, loop-mincut, loop-relevant}
+use Rattle.graph.proofs.Agree.{Agree, nodes-agree, edges-agree}
+use Rattle.connectivity.specs.declared.Verdict.the-variants.{Refused}
+use Rattle.connectivity.specs.Answers.{relevantOf, judgeFault, verdictOf, Says}
+use Rattle.connectivity.proofs.Answers.{part-refusal, verdict-right}
+use Rattle.listing.specs.List.{listRefusal, listedBy}
+use Rattle.listing.proofs.Agree.{mincuts-agree, sourceSides-agree, call-agrees}
+use Rattle.text.specs.Text.{refusalLine, listText, maxRows}
+use Rattle.report.specs.Report.{listReport, reportOf}
+use Rattle.demands.specs.Loops.{LoopsApart, LoopAdded, TenGone}
+
+-- ---- apart from routes and cuts
+
+-- A loop joins its point to itself.
+loop-joins : (N : Network) (k v : ℕ) → Loop N k v → Joins N k v v
+unfolding Joins
+loop-joins N k v (m, first, second) = (m, inl (first, second))
+
+pub loops-apart : LoopsApart
+loops-apart = record {
+  routes = λ N k v l. loop-minpath N k v (loop-joins N k v l);
+  cuts = λ N k v l. loop-mincut N k v (loop-joins N k v l);
+  useful = λ N k v l. loop-relevant N k v (loop-joins N k v l);
+  pair = loop-ends;
+}
+
+-- ---- a loop more
+
+-- What a slot that holds s joins.
+abbrev JoinsBy : Slot → ℕ → ℕ → Type 0
+JoinsBy s x y = T (s .0) × (((s .1 ≡ x) × (s .2 ≡ y)) ⊎ ((s .1 ≡ y) × (s .2 ≡ x)))
+
+-- One that holds a loop joins no two different points.
+one-point : (v x y : ℕ) → JoinsBy (true, v, v) x y → x ≡ y
+one-point v x y j = elim (j .1) [ inl p ↦ sym (p .0) ∙ p .1 | inr p ↦ sym (p .1) ∙ p .0 ]
+
+module _ (N : Network) (stored : Stored N) (ok : faultOf N ≡ 0) (k v : ℕ) (l : k < 64) (absent : k ∈ present N → ⊥) (point : v < N .nodes) where
+  abbrev M : Network
+  M = withEdge N k v v
+
+  stored′ : Stored M
+  stored′ = withEdge-stored N stored k v v l
+
+  ok′ : faultOf M ≡ 0
+  unfolding withEdge
+  ok′ =
+      let rules : Accepted N = accepted N ok in
+      accepted-none M (record {
+        size = rules .size;
+        terminals = rules .terminals;
+        slot-none = withEdge-faultless N stored k v v l (none-outside 9 (N .nodes) v v point point) (rules .slot-none);
+      })
+
+  -- Between different points it joins nothing, and the other slots hold what they held.
+  agree : Agree M N
+  unfolding withEdge Joins
+  agree = record { source = refl; sink = refl; joins = λ e x y ne. go e x y ne (ℕ-discrete e k) }
+    where
+      go : (e x y : ℕ) → x ≢ y → Dec (e ≡ k) → Joins M e x y ↔ Joins N e x y
+      go e x y ne (yes q) =
+          let here : slot M e ≡ (true, v, v) = ap (slot M) q ∙ withEdge-same N stored k v v l in
+          (λ j. absurd (ne (one-point v x y (subst (λ s. JoinsBy s x y) here j))), λ j. absurd (absent (rw q at (j .0))))
+      go e x y ne (no d) =
+          let same : slot M e ≡ slot N e = withEdge-other N stored k v v l e d in
+          (subst (λ s. JoinsBy s x y) same, subst (λ s. JoinsBy s x y) (sym same))
+
+  report-agrees : listReport M ≡ listReport N
+  unfolding listReport
+  report-agrees =
+      ap₂ (λ (l k : List ℕ). elim (ltb maxRows (length l)) [ true ↦ refusalLine 12 | false ↦ listText l k ])
+      (mincuts-agree M N stored′ stored ok′ ok agree) (sourceSides-agree M N stored′ stored ok′ ok agree)
+
+  pub loop-added : LoopAdded N k v
+  unfolding relevantOf reportOf
+  loop-added =
+      let sound = accepted-sound N stored ok in
+      let sound′ = accepted-sound M stored′ ok′ in
+      record {
+        accepted = ok′;
+        part = rw (ok, ok′, nodes-agree M N agree sound′ sound, edges-agree M N agree sound′ sound);
+        list = call-agrees M N stored′ stored ok′ ok agree;
+        printed = rw (encode-decode M stored′ ok′, encode-decode N stored ok) report-agrees;
+      }
+
+-- ---- the refusal 10
+
+test : (N : Network) → faultOf N ≡ 10 → ⊥
+unfolding among
+test N = not-fault N 10 (λ t. t)
+
+judging : (N : Network) → Stored N → (c : ℕ) → verdictOf N c ≡ Refused 10 → ⊥
+unfolding judgeFault
+judging N stored c e =
+    let said : Says N c (Refused 10) = subst (Says N c) e (verdict-right N stored c) in
+    then-other (faultOf N) (test N) (when-other 14 _ (λ e. omega arith) (omega arith)) (said .0)
+
+pub ten-gone : TenGone
+unfolding among listedBy listRefusal encodedBy encodeRefusal
+ten-gone = record {
+  reader = λ s e. rw e at (decode-answer s .number);
+  test = test;
+  part = λ N e. test N (sym (part-refusal N (relevantOf N) refl) ∙ e);
+  judging = judging;
+  list = λ N cuts sides. then-other (faultOf N) (test N) (then-other (11 when not (eqb (length cuts) (length sides)))
+      (when-other 11 _ (λ e. omega arith) (omega arith)) (when-other 12 _ (λ e. omega arith) (omega arith)));
+  writer = λ N lent. then-other (faultOf N) (test N) (when-other 15 _ (λ e. omega arith) (omega arith));
+}
