@@ -43,6 +43,7 @@ slot-ten true zero q a b = go (eqb a b) refl
 slot-ten true (suc r) q a b = inl refl
 
 module _ (N : Network) where
+  -- The same of slot k.
   slot-cases : (k : ℕ) → (slotWithTen N k ≡ slotFault N k) ⊎ (Loop N k (secondEnd N k) × (slotWithTen N k ≡ 10))
   unfolding slotWithTen slotFault
   slot-cases k =
@@ -54,8 +55,10 @@ module _ (N : Network) where
   loop-refused : (k v : ℕ) → Loop N k v → slotWithTen N k ≡ 0 → ⊥
   unfolding slotWithTen loopFault
   loop-refused k v (m, first, second) e =
-      let here = then-none (endFault (N .nodes) (firstEnd N k) (secondEnd N k)) (loopFault (firstEnd N k) (secondEnd N k)) (rw (is-true (hasEdge N k) m) at e) in
-      eqb-false (firstEnd N k) (secondEnd N k) (when-none 10 (eqb (firstEnd N k) (secondEnd N k)) (omega arith) (here .1)) (first ∙ sym second)
+      let a : ℕ = firstEnd N k in
+      let b : ℕ = secondEnd N k in
+      let here = then-none (endFault (N .nodes) a b) (loopFault a b) (rw (is-true (hasEdge N k) m) at e) in
+      eqb-false a b (when-none 10 (eqb a b) (omega arith) (here .1)) (first ∙ sym second)
 
 -- The first fault of a row of slots is the one that it was, unless it was 10.
 row-kept : (f g : ℕ → ℕ) → ((k : ℕ) → (g k ≡ f k) ⊎ (g k ≡ 10)) → (l : List ℕ)
@@ -68,26 +71,33 @@ row-kept f g cases (k ∷ l) n =
       | inr ten ↦ absurd (n (ap (λ r. r then foldr _then_ 0 (map g l)) ten ∙ some-then 10 _ (omega arith)))
     ]
 
+-- So is that of the record.
 faults : (N : Network) → (faultWithTen N ≡ 10 → ⊥) → faultOf N ≡ faultWithTen N
 unfolding faultUpTo slotsFault faultWithTen
 faults N =
     then-kept 10 (sizeFault nodeWidth (N .nodes)) (then-kept 10 (terminalFault (N .nodes) (N .source) (N .sink))
     (row-kept (slotFault N) (slotWithTen N) (λ k. elim (slot-cases N k) [ inl e ↦ inl e | inr c ↦ inr (c .1) ]) slots))
 
+-- Without loops each slot's fault is the one that it was.
 loopless : (N : Network) → Loopless N → faultOf N ≡ faultWithTen N
 unfolding faultUpTo slotsFault faultWithTen
 loopless N none =
     let same : (k : ℕ) → slotFault N k ≡ slotWithTen N k = λ k.
     elim (slot-cases N k) [ inl e ↦ sym e | inr c ↦ absurd (none k (secondEnd N k) (c .0)) ] in
-    λ i. sizeFault nodeWidth (N .nodes) then terminalFault (N .nodes) (N .source) (N .sink) then foldr _then_ 0 (map (λ (k : ℕ). same k i) slots)
+    λ i.
+    sizeFault nodeWidth (N .nodes)
+    then terminalFault (N .nodes) (N .source) (N .sink)
+    then foldr _then_ 0 (map (λ (k : ℕ). same k i) slots)
 
+-- An accepted record had no loop, since no slot had a fault.
 accepted : (N : Network) → Stored N → (faultWithTen N ≡ 0) ↔ ((faultOf N ≡ 0) × Loopless N)
 unfolding faultWithTen
 accepted N stored = (
   λ e.
-      let slots-none = then-none (terminalFault (N .nodes) (N .source) (N .sink)) _ (then-none (sizeFault nodeWidth (N .nodes)) _ e .1) .1 in (
+      let fit = then-none (sizeFault nodeWidth (N .nodes)) _ e .1 in
+      let none = row-none (slotWithTen N) 0 64 (then-none (terminalFault (N .nodes) (N .source) (N .sink)) _ fit .1) in (
         faults N (λ t. omega arith) ∙ e,
-        λ k v l. loop-refused N k v l (row-none (slotWithTen N) 0 64 slots-none k zero-le (member-lt 64 (present N) k (stored .edges) (l .0))),
+        λ k v l. loop-refused N k v l (none k zero-le (member-lt 64 (present N) k (stored .edges) (l .0))),
       ),
   λ k. sym (loopless N (k .1)) ∙ k .0,
 )
@@ -100,6 +110,7 @@ data Ten (t d : Decoded) : Type 0 where
   same : t ≡ d → (d .refusal ≡ 0 → Loopless (d .network)) → Ten t d
   lifted : t .refusal ≡ 10 → (d .refusal ≡ 0 → Loopless (d .network) → ⊥) → Ten t d
 
+-- Both answers by other names.
 ten-by : {t t′ d d′ : Decoded} → t ≡ t′ → d ≡ d′ → Ten t′ d′ → Ten t d
 ten-by {t} {t′} {d} {d′} e f w = subst (λ (x : Decoded). Ten x d) (sym e) (subst (Ten t′) (sym f) w)
 
@@ -176,10 +187,12 @@ walk-ten : (turns : ℕ) (N : Network) (next : ℕ) (s : List ℕ) → Stored N 
 unfolding edgesWithTen edges
 walk-ten zero N next s stored none = refused-ten 1 (omega arith)
 walk-ten (suc turns) N next s stored none =
-    go (λ k a b l differ. walk-ten turns (withEdge N k a b) (suc k) (drop 4 s) (withEdge-stored N stored k a b l) (withEdge-loopless N stored k a b l differ none))
+    go (λ k a b l differ.
+    walk-ten turns (withEdge N k a b) (suc k) (drop 4 s) (withEdge-stored N stored k a b l) (withEdge-loopless N stored k a b l differ none))
     (edge-view (N .nodes) next s)
   where
-    go : ((k a b : ℕ) → k < 64 → (a ≡ b → ⊥) → Ten (edgesWithTen turns (withEdge N k a b) (suc k) (drop 4 s)) (edges turns (withEdge N k a b) (suc k) (drop 4 s)))
+    go : ((k a b : ℕ) → k < 64 → (a ≡ b → ⊥)
+        → Ten (edgesWithTen turns (withEdge N k a b) (suc k) (drop 4 s)) (edges turns (withEdge N k a b) (suc k) (drop 4 s)))
         → EdgeView (N .nodes) next s → Ten (edgesWithTen (suc turns) N next s) (edges (suc turns) N next s)
     go later (edge k a b rest step p h l f) =
         ten-by (ten-edge turns N next s step) (edges-edge turns N next s step) (edge-ten turns N stored k a b (drop 4 s) l (later k a b l))
@@ -191,12 +204,13 @@ bare-loopless : (n s t : ℕ) → Loopless (bare n s t)
 unfolding bare
 bare-loopless n s t k v loop = rw (has-zero k) at (loop .0)
 
+-- The reader.
 decode-ten : (s : List ℕ) → Ten (decodeWithTen s) (decodeOf s)
 unfolding decodeWithTen decodeUpTo
 decode-ten s =
-    taken-ten (sizeStep nodeWidth s) _ _ (λ size. taken-ten (terminalsStep (at size 0) (drop 2 s)) _ _ (λ terminals.
-    walk-ten (length (drop 5 s)) (bare (at size 0) (at terminals 0) (at terminals 1)) 0 (drop 5 s)
-    (bare-stored (at size 0) (at terminals 0) (at terminals 1)) (bare-loopless (at size 0) (at terminals 0) (at terminals 1))))
+    taken-ten (sizeStep nodeWidth s) _ _ (λ size. taken-ten (terminalsStep (at size 0) (drop 2 s)) _ _ (λ v.
+    walk-ten (length (drop 5 s)) (bare (at size 0) (at v 0) (at v 1)) 0 (drop 5 s)
+    (bare-stored (at size 0) (at v 0) (at v 1)) (bare-loopless (at size 0) (at v 0) (at v 1))))
 
 plans : (s : List ℕ) → (decodeWithTen s .refusal ≡ 10 → ⊥) → decodeOf s ≡ decodeWithTen s
 plans s n = elim (decode-ten s) [ same e q ↦ sym e | lifted e q ↦ absurd (n e) ]

@@ -102,6 +102,7 @@ module _ (N : Network) (stored : Stored N) (ok : faultOf N ≡ 0) (k v : ℕ) (l
       let sound′ = accepted-sound M stored′ ok′ in
       record {
         accepted = ok′;
+        read = encode-decode M stored′ ok′;
         part = rw (ok, ok′, nodes-agree M N agree sound′ sound, edges-agree M N agree sound′ sound);
         list = call-agrees M N stored′ stored ok′ ok agree;
         printed = rw (encode-decode M stored′ ok′, encode-decode N stored ok) report-agrees;

@@ -2,7 +2,7 @@
 -- To believe.
 --
 --   LoopsApart           a loop lies on no route and in no minimal cut, and is never useful; its pair is its point with itself
---   LoopAdded N k v      N with the loop k at v is accepted, and has the useful part, the list and the print of N
+--   LoopAdded N k v      N with the loop k at v is accepted, as a record and in bytes, and has the useful part, the list and the print of N
 --   TenGone              no call gives the refusal 10, which was that of a loop
 use mathlib.Core.List.{List}
 use mathlib.Core.Path.{_≡_}
@@ -11,7 +11,7 @@ use Rattle.bitset.specs.Members.{_∈_}
 use Rattle.network.specs.declared.Network.{Network}
 use Rattle.network.specs.Record.{Stored, faultOf, withEdge}
 use Rattle.network.specs.Ends.{endsOf, Loop}
-use Rattle.format.specs.Format.{decodeOf, encodeOf, encodedBy}
+use Rattle.format.specs.Format.{accept, decodeOf, encodeOf, encodedBy}
 use Rattle.graph.specs.Paths.{Minpath}
 use Rattle.graph.specs.Cuts.{Mincut, RelevantEdge}
 use Rattle.connectivity.specs.declared.Verdict.the-variants.{Refused}
@@ -23,12 +23,13 @@ pub record LoopsApart : Type 0 where
   pub routes : (N : Network) (k v : ℕ) → Loop N k v → (r : ℕ) → Minpath N r → k ∈ r → ⊥
   pub cuts : (N : Network) (k v : ℕ) → Loop N k v → (c : ℕ) → Mincut N c → k ∈ c → ⊥
   pub useful : (N : Network) (k v : ℕ) → Loop N k v → RelevantEdge N k → ⊥
-  -- Two loops at one point are one pair, and so is a loop in whatever order its ends are looked at.
+  -- Its point with itself: two loops at one point are one pair.
   pub pair : (N : Network) (k v : ℕ) → Loop N k v → endsOf N k ≡ 2 ^ v
 
 -- The list call answers alike and leaves the same rows, whatever was lent: count, cuts, sides and later rows, on refusal too.
 pub record LoopAdded (N : Network) (k v : ℕ) : Type 0 where
   pub accepted : faultOf (withEdge N k v v) ≡ 0
+  pub read : decodeOf (encodeOf (withEdge N k v v)) ≡ accept (withEdge N k v v)
   pub part : relevantOf (withEdge N k v v) ≡ relevantOf N
   pub list : (cuts sides : List ℕ)
       → (listedBy (withEdge N k v v) cuts sides ≡ listedBy N cuts sides)
