@@ -12,6 +12,9 @@
  *   first    the first end of each cable, 0 if the cable is absent
  *   second   the second end of each cable, 0 if the cable is absent
  *
+ * Fill in both ends of every cable present: one whose ends are left 0 is no fault but a loop at point
+ * 0, and is in no cut of the list.
+ *
  * struct cutlist_plan holds the fields together, and for each function that takes them one by one
  * there is an inline function that takes the struct: cutlist_plan_fault for cutlist_fault. A call of
  * those stays as it is when plans gain a field.

@@ -2,9 +2,9 @@
 //!
 //! A plan has points and cables between two points each; one point is the server, one the room. A
 //! cut is a set of cables without which the server no longer reaches the room, and a minimal cut is
-//! one of which no cable can be spared; a loop, a cable with both ends at one point, is in none.
-//! This crate lists all of them, by a static library whose every function is proved to keep its
-//! contract.
+//! one of which no cable can be spared. This crate lists all minimal cuts, by a static library whose
+//! every function is proved to keep its contract. A cable may have both ends at one point; such a
+//! loop is in no minimal cut.
 //!
 //! ```
 //! use cutlist::{EdgeSet, Plan, Refusal, Verdict};

@@ -8,7 +8,7 @@ macro_rules! refusals {
     ($($number:literal $name:ident $words:literal)*) => {
         /// Why a call refused. Its text is the paper's words, which name bytes in hexadecimal.
         ///
-        /// Their numbers have gaps, and more come with more calls.
+        /// The numbers have gaps, and more refusals come with more calls.
         #[derive(Clone, Copy, Debug, PartialEq, Eq, Hash)]
         #[non_exhaustive]
         pub enum Refusal {

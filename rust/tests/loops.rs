@@ -85,8 +85,8 @@ impl Kinds {
     }
 }
 
-/// On up to 7 points, by force: a plan has the routes that it has without its loops, and the sets
-/// that are minimal cuts by the definition are those of the plan without them.
+/// On up to 7 points, by force: a plan has the routes that it has without the loops added, and the
+/// sets that are minimal cuts by the definition are those of the plan without them.
 #[test]
 fn loops_added_to_small_plans() {
     let mut rng = Rng::new(91);

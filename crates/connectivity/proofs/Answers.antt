@@ -121,7 +121,7 @@ module _ (N : Network) (c : ℕ) where
   verdict-refused r fault some = rw fault (sym (refused-some r (verdictOn N c) (Refused r) some))
 
   -- Without a refusal it is the verdict on the set.
-  verdict-judged : judgeFault N c ≡ 0 → verdictOf N c ≡ verdictOn N c
+  pub verdict-judged : judgeFault N c ≡ 0 → verdictOf N c ≡ verdictOn N c
   unfolding verdictOf
   verdict-judged none = rw none
 

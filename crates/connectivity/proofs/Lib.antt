@@ -3,3 +3,4 @@ pub mod Fitting
 pub mod Rounds
 pub mod Nodes
 pub mod Answers
+pub mod Agree

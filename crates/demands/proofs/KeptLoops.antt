@@ -5,7 +5,6 @@ use mathlib.Core.List.{List, [], _∷_, map, foldr}
 use mathlib.Core.Logic.{_⊎_, inl, inr, _↔_}
 use mathlib.Core.Path.{_≡_, refl, sym, ap, subst, _∙_}
 use Prim.Native.Nat.{ℕ, zero, suc, _<_, zero-le}
-use native.Mathlib.Decide.{ℕ-discrete}
 use native.Mathlib.Omega.{arith}
 use denote.Floats.{is-true}
 use borrow.Author.Tests.{eqb-true, eqb-false}
@@ -13,15 +12,14 @@ use lib.Dec.{T, eqb}
 use lib.ListN.{length, drop}
 use Rattle.bitset.proofs.Members.{has-zero}
 use Rattle.bitset.proofs.Sets.{member-lt}
-use Rattle.node_set.specs.Width.{nodeWidth}
 use Rattle.network.specs.declared.Network.{Network}
-use Rattle.network.specs.Record.{_then_, unlessRefused, sizeFault, terminalFault, endFault, absentFault, slots, Slot, slot, hasEdge, firstEnd, secondEnd, slotFault, slotsFault, faultUpTo, faultOf, bare, withEdge, present, Stored}
+use Rattle.network.specs.Record.{_then_, unlessRefused, sizeFault, terminalFault, endFault, absentFault, slots, Slot, slot, hasEdge, firstEnd, secondEnd, slotFault, slotsFault, faultUpTo, bare, withEdge, present, Stored}
 use Rattle.network.specs.Ends.{Loop, Loopless}
 use Rattle.network.proofs.Refusals.{then-none, some-then, then-kept, when-none, none-when, some-when, refused-some}
-use Rattle.network.proofs.Slots.{row-none, withEdge-same, withEdge-other, withEdge-stored}
+use Rattle.network.proofs.Slots.{row-none, withEdge-same, withEdge-stored, withEdge-slots}
 use Rattle.format.specs.declared.Decoded.{Decoded}
 use Rattle.format.specs.declared.Step.{Step}
-use Rattle.format.specs.Format.{at, sizeStep, terminalsStep, edgeStep, told, accept, refuse, ifTaken, edges, decodeUpTo, decodeOf}
+use Rattle.format.specs.Format.{at, sizeStep, terminalsStep, edgeStep, told, accept, refuse, ifTaken, edges, decodeUpTo}
 use Rattle.format.proofs.Steps.{EdgeView, edge, end, edge-view}
 use Rattle.format.proofs.Walk.{edges-edge, edges-end, edges-refused}
 use Rattle.format.proofs.Reading.{edges-keep, bare-stored}
@@ -72,34 +70,34 @@ row-kept f g cases (k ∷ l) n =
     ]
 
 -- So is that of the record.
-faults : (N : Network) → (faultWithTen N ≡ 10 → ⊥) → faultOf N ≡ faultWithTen N
+faults : (most : ℕ) (N : Network) → (faultWithTen most N ≡ 10 → ⊥) → faultUpTo most N ≡ faultWithTen most N
 unfolding faultUpTo slotsFault faultWithTen
-faults N =
-    then-kept 10 (sizeFault nodeWidth (N .nodes)) (then-kept 10 (terminalFault (N .nodes) (N .source) (N .sink))
+faults most N =
+    then-kept 10 (sizeFault most (N .nodes)) (then-kept 10 (terminalFault (N .nodes) (N .source) (N .sink))
     (row-kept (slotFault N) (slotWithTen N) (λ k. elim (slot-cases N k) [ inl e ↦ inl e | inr c ↦ inr (c .1) ]) slots))
 
 -- Without loops each slot's fault is the one that it was.
-loopless : (N : Network) → Loopless N → faultOf N ≡ faultWithTen N
+loopless : (most : ℕ) (N : Network) → Loopless N → faultUpTo most N ≡ faultWithTen most N
 unfolding faultUpTo slotsFault faultWithTen
-loopless N none =
+loopless most N none =
     let same : (k : ℕ) → slotFault N k ≡ slotWithTen N k = λ k.
     elim (slot-cases N k) [ inl e ↦ sym e | inr c ↦ absurd (none k (secondEnd N k) (c .0)) ] in
     λ i.
-    sizeFault nodeWidth (N .nodes)
+    sizeFault most (N .nodes)
     then terminalFault (N .nodes) (N .source) (N .sink)
     then foldr _then_ 0 (map (λ (k : ℕ). same k i) slots)
 
 -- An accepted record had no loop, since no slot had a fault.
-accepted : (N : Network) → Stored N → (faultWithTen N ≡ 0) ↔ ((faultOf N ≡ 0) × Loopless N)
+accepted : (most : ℕ) (N : Network) → Stored N → (faultWithTen most N ≡ 0) ↔ ((faultUpTo most N ≡ 0) × Loopless N)
 unfolding faultWithTen
-accepted N stored = (
+accepted most N stored = (
   λ e.
-      let fit = then-none (sizeFault nodeWidth (N .nodes)) _ e .1 in
+      let fit = then-none (sizeFault most (N .nodes)) _ e .1 in
       let none = row-none (slotWithTen N) 0 64 (then-none (terminalFault (N .nodes) (N .source) (N .sink)) _ fit .1) in (
-        faults N (λ t. omega arith) ∙ e,
+        faults most N (λ t. omega arith) ∙ e,
         λ k v l. loop-refused N k v l (none k zero-le (member-lt 64 (present N) k (stored .edges) (l .0))),
       ),
-  λ k. sym (loopless N (k .1)) ∙ k .0,
+  λ k. sym (loopless most N (k .1)) ∙ k .0,
 )
 
 -- ---- plans in bytes
@@ -148,13 +146,8 @@ LoopSlot v x = T (x .0) × (x .1 ≡ v) × (x .2 ≡ v)
 
 -- An edge between two points makes no loop.
 withEdge-loopless : (N : Network) → Stored N → (k a b : ℕ) → k < 64 → (a ≡ b → ⊥) → Loopless N → Loopless (withEdge N k a b)
-withEdge-loopless N stored k a b l differ none j v loop = go (ℕ-discrete j k)
-  where
-    go : Dec (j ≡ k) → ⊥
-    go (yes q) =
-        let here : LoopSlot v (true, a, b) = subst (LoopSlot v) (ap (slot (withEdge N k a b)) q ∙ withEdge-same N stored k a b l) loop in
-        differ (here .1 ∙ sym (here .2))
-    go (no d) = none j v (subst (LoopSlot v) (withEdge-other N stored k a b l j d) loop)
+withEdge-loopless N stored k a b l differ none =
+    withEdge-slots N stored k a b l (λ j s. (v : ℕ) → LoopSlot v s → ⊥) (λ v loop. differ (loop .1 ∙ sym (loop .2))) (λ j d. none j)
 
 module _ (turns : ℕ) (N : Network) (stored : Stored N) (k a b : ℕ) (s : List ℕ) (l : k < 64) where
   -- What is read on after an edge's command, with the rule and without.
@@ -205,23 +198,32 @@ unfolding bare
 bare-loopless n s t k v loop = rw (has-zero k) at (loop .0)
 
 -- The reader.
-decode-ten : (s : List ℕ) → Ten (decodeWithTen s) (decodeOf s)
+decode-ten : (most : ℕ) (s : List ℕ) → Ten (decodeWithTen most s) (decodeUpTo most s)
 unfolding decodeWithTen decodeUpTo
-decode-ten s =
-    taken-ten (sizeStep nodeWidth s) _ _ (λ size. taken-ten (terminalsStep (at size 0) (drop 2 s)) _ _ (λ v.
+decode-ten most s =
+    taken-ten (sizeStep most s) _ _ (λ size. taken-ten (terminalsStep (at size 0) (drop 2 s)) _ _ (λ v.
     walk-ten (length (drop 5 s)) (bare (at size 0) (at v 0) (at v 1)) 0 (drop 5 s)
     (bare-stored (at size 0) (at v 0) (at v 1)) (bare-loopless (at size 0) (at v 0) (at v 1))))
 
-plans : (s : List ℕ) → (decodeWithTen s .refusal ≡ 10 → ⊥) → decodeOf s ≡ decodeWithTen s
-plans s n = elim (decode-ten s) [ same e q ↦ sym e | lifted e q ↦ absurd (n e) ]
+plans : (most : ℕ) (s : List ℕ) → (decodeWithTen most s .refusal ≡ 10 → ⊥) → decodeUpTo most s ≡ decodeWithTen most s
+plans most s n = elim (decode-ten most s) [ same e q ↦ sym e | lifted e q ↦ absurd (n e) ]
 
-read : (s : List ℕ) → (decodeWithTen s .refusal ≡ 0) ↔ ((decodeOf s .refusal ≡ 0) × Loopless (decodeOf s .network))
-read s = elim (decode-ten s) [
+read : (most : ℕ) (s : List ℕ)
+    → (decodeWithTen most s .refusal ≡ 0) ↔ ((decodeUpTo most s .refusal ≡ 0) × Loopless (decodeUpTo most s .network))
+read most s = elim (decode-ten most s) [
   | same e q ↦
       let number = ap (λ (d : Decoded). d .refusal) e in
       (λ z. let ok = sym number ∙ z in (ok, q ok), λ k. number ∙ k .0)
   | lifted e q ↦ (λ z. absurd (omega arith), λ k. absurd (q (k .0) (k .1)))
 ]
 
-pub loops-kept : LoopsKept
-loops-kept = record { faults = faults; plans = plans; loopless = loopless; accepted = accepted; read = read; lists = complete-unique }
+-- Whatever the limit of points is.
+pub loops-kept : (most : ℕ) → LoopsKept most
+loops-kept most = record {
+  faults = faults most;
+  plans = plans most;
+  loopless = loopless most;
+  accepted = accepted most;
+  read = read most;
+  lists = complete-unique;
+}

@@ -1,38 +1,40 @@
 -- Loops: they lie on no route and in no minimal cut, to add one changes no list, and none is refused.
 -- Assumes what the code's types say of the records.
 use mathlib.Core.Path.{_≡_, refl, sym, ap, ap₂, subst, _∙_}
-use mathlib.Core.Bool.{true, false, not}
+use mathlib.Core.Bool.{Bool, true, false, not}
 use mathlib.Core.List.{List}
-use mathlib.Core.Logic.{_⊎_, inl, inr, _↔_, _≢_}
-use Prim.Native.Nat.{ℕ, _<_}
-use native.Mathlib.Decide.{ℕ-discrete}
+use mathlib.Core.Logic.{_⊎_, inl, inr, _↔_, Iff·rfl}
+use Prim.Native.Nat.{ℕ, zero, suc, _<_}
 use native.Mathlib.Omega.{arith}
 use lib.Dec.{T, ltb, eqb}
-use lib.ListN.{length}
+use lib.ListN.{length, getD}
+use Rattle.sequences.specs.Words.{every}
 use Rattle.bitset.specs.Members.{_∈_}
+use Rattle.bitset.proofs.Subsets.{⊆-trans, ⊆-insert}
 use Rattle.network.specs.declared.Network.{Network}
-use Rattle.network.specs.Record.{_when_, among, Stored, Slot, slot, faultOf, withEdge, present}
+use Rattle.network.specs.Record.{_when_, among, unlessRefused, Stored, Slot, faultOf, withEdge, present}
 use Rattle.network.specs.Ends.{Loop}
-use Rattle.network.proofs.Refusals.{then-other, when-other}
+use Rattle.network.proofs.Refusals.{then-other, when-other, among-lt}
 use Rattle.network.proofs.Rules.{none-outside}
-use Rattle.network.proofs.Slots.{Accepted, accepted, accepted-none, withEdge-same, withEdge-other, withEdge-stored, withEdge-faultless}
+use Rattle.network.proofs.Slots.{Accepted, accepted, accepted-none, withEdge-stored, withEdge-slots, withEdge-faultless}
 use Rattle.network.proofs.Numbers.{not-fault}
 use Rattle.network.proofs.Ends.{loop-ends}
-use Rattle.format.specs.Format.{encodeRefusal, encodedBy}
+use Rattle.format.specs.Format.{readerRefusals, decodeOf, encodeRefusal, encodedBy}
 use Rattle.format.proofs.Reading.{decode-answer}
 use Rattle.format.proofs.Writing.{encode-decode}
 use Rattle.graph.specs.Paths.{Joins}
-use Rattle.graph.proofs.Sound.{accepted-sound}
 use Rattle.graph.proofs.Loops.{loop-minpath, loop-mincut, loop-relevant}
-use Rattle.graph.proofs.Agree.{Agree, nodes-agree, edges-agree}
+use Rattle.graph.proofs.Agree.{Agree}
 use Rattle.connectivity.specs.declared.Verdict.the-variants.{Refused}
 use Rattle.connectivity.specs.Answers.{relevantOf, judgeFault, verdictOf, Says}
 use Rattle.connectivity.proofs.Answers.{part-refusal, verdict-right}
-use Rattle.listing.specs.List.{listRefusal, listedBy}
+use Rattle.connectivity.proofs.Agree.{part-agrees, verdict-agrees}
+use Rattle.listing.specs.List.{mincuts, sourceSides, listRefusal, listedBy}
 use Rattle.listing.proofs.Agree.{mincuts-agree, sourceSides-agree, call-agrees}
-use Rattle.text.specs.Text.{refusalLine, listText, maxRows}
+use Rattle.text.specs.Text.{digits, decimal, wordLine, refusalLine, listText, maxRows}
+use Rattle.text.proofs.Decimal.{decimal-small}
 use Rattle.report.specs.Report.{listReport, reportOf}
-use Rattle.demands.specs.Loops.{LoopsApart, LoopAdded, TenGone}
+use Rattle.demands.specs.Loops.{LoopsApart, AsWithout, LoopAdded, TenGone}
 
 -- ---- apart from routes and cuts
 
@@ -79,15 +81,12 @@ module _ (N : Network) (stored : Stored N) (ok : faultOf N ≡ 0) (k v : ℕ) (l
   -- Between different points it joins nothing, and the other slots hold what they held.
   agree : Agree M N
   unfolding withEdge Joins
-  agree = record { source = refl; sink = refl; joins = λ e x y ne. go e x y ne (ℕ-discrete e k) }
-    where
-      go : (e x y : ℕ) → x ≢ y → Dec (e ≡ k) → Joins M e x y ↔ Joins N e x y
-      go e x y ne (yes q) =
-          let here : slot M e ≡ (true, v, v) = ap (slot M) q ∙ withEdge-same N stored k v v l in
-          (λ j. absurd (ne (one-point v x y (subst (λ s. JoinsBy s x y) here j))), λ j. absurd (absent (rw q at (j .0))))
-      go e x y ne (no d) =
-          let same : slot M e ≡ slot N e = withEdge-other N stored k v v l e d in
-          (subst (λ s. JoinsBy s x y) same, subst (λ s. JoinsBy s x y) (sym same))
+  agree = record {
+    source = refl;
+    sink = refl;
+    joins = λ e x y ne. withEdge-slots N stored k v v l (λ e s. JoinsBy s x y ↔ Joins N e x y)
+        (λ j. absurd (ne (one-point v x y j)), λ j. absurd (absent (j .0))) (λ e d. Iff·rfl) e;
+  }
 
   report-agrees : listReport M ≡ listReport N
   unfolding listReport
@@ -95,18 +94,19 @@ module _ (N : Network) (stored : Stored N) (ok : faultOf N ≡ 0) (k v : ℕ) (l
       ap₂ (λ (l k : List ℕ). elim (ltb maxRows (length l)) [ true ↦ refusalLine 12 | false ↦ listText l k ])
       (mincuts-agree M N stored′ stored ok′ ok agree) (sourceSides-agree M N stored′ stored ok′ ok agree)
 
-  pub loop-added : LoopAdded N k v
-  unfolding relevantOf reportOf
-  loop-added =
-      let sound = accepted-sound N stored ok in
-      let sound′ = accepted-sound M stored′ ok′ in
-      record {
-        accepted = ok′;
-        read = encode-decode M stored′ ok′;
-        part = rw (ok, ok′, nodes-agree M N agree sound′ sound, edges-agree M N agree sound′ sound);
-        list = call-agrees M N stored′ stored ok′ ok agree;
-        printed = rw (encode-decode M stored′ ok′, encode-decode N stored ok) report-agrees;
-      }
+  as-without : AsWithout N k v
+  unfolding withEdge reportOf
+  as-without = record {
+    accepted = ok′;
+    read = encode-decode M stored′ ok′;
+    part = part-agrees M N stored′ stored ok′ ok agree;
+    verdicts = λ c within. verdict-agrees M N stored′ stored ok′ ok agree c (⊆-trans c (present N) (present M) within (⊆-insert (present N) k)) within;
+    list = call-agrees M N stored′ stored ok′ ok agree;
+    printed = rw (encode-decode M stored′ ok′, encode-decode N stored ok) report-agrees;
+  }
+
+pub loop-added : LoopAdded
+loop-added = as-without
 
 -- ---- the refusal 10
 
@@ -120,6 +120,32 @@ judging N stored c e =
     let said : Says N c (Refused 10) = subst (Says N c) e (verdict-right N stored c) in
     then-other (faultOf N) (test N) (when-other 14 _ (λ e. omega arith) (omega arith)) (said .0)
 
+-- The line of a number of one digit is another: its tenth byte ends it.
+one-digit : (r : ℕ) → r < 10 → refusalLine r ≡ refusalLine 10 → ⊥
+unfolding wordLine decimal digits
+one-digit r h e =
+    let last : getD (refusalLine r) 9 0 ≡ 10 = rw (decimal-small r h) in
+    let other : getD (refusalLine 10) 9 0 ≡ 48 = refl in
+    omega (arith, ap (λ (l : List ℕ). getD l 9 0) e)
+
+-- So is the line of 12, and so is a list.
+no-list : (N : Network) → listReport N ≡ refusalLine 10 → ⊥
+unfolding listReport listText wordLine decimal digits
+no-list N e = go (ltb maxRows (length (mincuts N))) e
+  where
+    go : (b : Bool) → elim b [ true ↦ refusalLine 12 | false ↦ listText (mincuts N) (sourceSides N) ] ≡ refusalLine 10 → ⊥
+    go true p = let bad : _≡_ {A = ℕ} 50 48 = ap (λ (l : List ℕ). getD l 9 0) p in omega arith
+    go false p = let bad : _≡_ {A = ℕ} 99 114 = ap (λ (l : List ℕ). getD l 0 0) p in omega arith
+
+-- The program prints the reader's refusal, 12 or a list.
+program : (s : List ℕ) → reportOf s ≡ refusalLine 10 → ⊥
+unfolding reportOf every
+program s e = go (decodeOf s .refusal) (decode-answer s .number) e
+  where
+    go : (r : ℕ) → T (among readerRefusals r) → unlessRefused r (listReport (decodeOf s .network)) (refusalLine r) ≡ refusalLine 10 → ⊥
+    go zero a p = no-list (decodeOf s .network) p
+    go (suc r) a p = one-digit (suc r) (among-lt 10 readerRefusals (omega arith) tt (suc r) a) p
+
 pub ten-gone : TenGone
 unfolding among listedBy listRefusal encodedBy encodeRefusal
 ten-gone = record {
@@ -130,4 +156,5 @@ ten-gone = record {
   list = λ N cuts sides. then-other (faultOf N) (test N) (then-other (11 when not (eqb (length cuts) (length sides)))
       (when-other 11 _ (λ e. omega arith) (omega arith)) (when-other 12 _ (λ e. omega arith) (omega arith)));
   writer = λ N lent. then-other (faultOf N) (test N) (when-other 15 _ (λ e. omega arith) (omega arith));
+  program = program;
 }

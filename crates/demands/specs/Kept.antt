@@ -1,19 +1,20 @@
 -- What earlier plans keep where a rule was widened or went. A widened rule as it was is today's definition at its earlier limit; one that
--- went is kept here.
+-- went is written out here. Each record speaks of one rule, with today's others: `LoopsKept 32` and `PointsKept 32` lead from the first
+-- rules to today's.
 -- To believe.
 --
---   PointsKept before    where there were at most `before` points: of records and plans the refusal 4 alone is lifted, so what was
+--   PointsKept before    where at most `before` points were allowed: of records and plans the refusal 4 alone is lifted, so what was
 --                        accepted is accepted as it was; its list has the same cuts and the same sides as numbers, and the line of
 --                        each row is the one that was printed
 --
 -- Both ends of a cable at one point were refused, as 10:
 --   loopFault a b        the rule: a cable's two ends at one point
 --   slotWithTen N k      the fault of slot k with it
---   faultWithTen N       the record test with it
+--   faultWithTen most N      the record test with it, where so many points are the most
 --   edgesWithTen turns N next s      the edge commands and the end, read with it
---   decodeWithTen s      the reader with it
---   LoopsKept            of records and plans the refusal 10 alone is lifted; without loops every answer is the one that was given; and a
---                        network has one complete list
+--   decodeWithTen most s     the reader with it
+--   LoopsKept most       of records and plans the refusal 10 alone is lifted, so that record test and reader answer those without loops as
+--                        they did; and a network has one complete list
 use mathlib.Core.Bool.{cond}
 use mathlib.Core.List.{List, [], _∷_, map, foldr}
 use mathlib.Core.Logic.{_↔_}
@@ -22,7 +23,6 @@ use Prim.Native.Nat.{ℕ, zero, suc, _^_, _≤_, _<_}
 use lib.Dec.{eqb}
 use lib.ListN.{length, getD, drop}
 use Rattle.sequences.specs.Words.{onto}
-use Rattle.node_set.specs.Width.{nodeWidth}
 use Rattle.network.specs.declared.Network.{Network}
 use Rattle.network.specs.Record.{_when_, _then_, unlessRefused, sizeFault, terminalFault, endFault, absentFault, slots, hasEdge, firstEnd, secondEnd, faultUpTo, faultOf, bare, withEdge, Stored}
 use Rattle.network.specs.Ends.{Loopless}
@@ -34,13 +34,13 @@ use Rattle.listing.specs.List.{mincuts, sourceSides, listedBy, cutRowsAfter, si
 use Rattle.text.specs.Text.{lineUpTo, lineOf}
 
 pub record PointsKept (before : ℕ) : Type 0 where
-  -- Any other number of the record test, 0 among them, is the one that was given.
+  -- Any other number of the record test at that limit, 0 among them, is today's.
   pub faults : (N : Network) → (faultUpTo before N ≡ 4 → ⊥) → faultOf N ≡ faultUpTo before N
-  -- So is any other answer of the reader, the record too.
+  -- So is any other answer of the reader at that limit, the record too.
   pub plans : (s : List ℕ) → (decodeUpTo before s .refusal ≡ 4 → ⊥) → decodeOf s ≡ decodeUpTo before s
-  -- The record of a plan that was accepted is one that was accepted: what follows is said of plans in bytes too.
+  -- The record of a plan accepted at that limit is one accepted there: what follows is said of plans in bytes too.
   pub read : (s : List ℕ) → decodeUpTo before s .refusal ≡ 0 → Stored (decodeOf s .network) × (faultUpTo before (decodeOf s .network) ≡ 0)
-  -- The list of a record that was accepted: `mincuts` and `sourceSides` name no limit.
+  -- The list of a record accepted at that limit: `mincuts` and `sourceSides` name no limit.
   pub lists : (N : Network) → faultUpTo before N ≡ 0 → (cuts sides : List ℕ) → length cuts ≡ length sides → length (mincuts N) ≤ length cuts
       → (listedBy N cuts sides ≡ record { refusal = 0; count = length (mincuts N) })
       × (cutRowsAfter N cuts sides ≡ onto (mincuts N) cuts)
@@ -65,9 +65,9 @@ slotWithTen N k =
     let b = secondEnd N k in
     cond (hasEdge N k) (endFault (N .nodes) a b then loopFault a b) (absentFault a b)
 
-unfoldable pub faultWithTen : Network → ℕ
-faultWithTen N =
-    sizeFault nodeWidth (N .nodes) then terminalFault (N .nodes) (N .source) (N .sink) then foldr _then_ 0 (map (slotWithTen N) slots)
+unfoldable pub faultWithTen : ℕ → Network → ℕ
+faultWithTen most N =
+    sizeFault most (N .nodes) then terminalFault (N .nodes) (N .source) (N .sink) then foldr _then_ 0 (map (slotWithTen N) slots)
 
 -- The reader as it was: within a cable's command 10 came last.
 unfoldable pub edgesWithTen : ℕ → Network → ℕ → List ℕ → Decoded
@@ -81,22 +81,23 @@ edgesWithTen (suc turns) N next s =
           (refuse 10)
     ]
 
-unfoldable pub decodeWithTen : List ℕ → Decoded
-decodeWithTen s =
-    ifTaken (sizeStep nodeWidth s) λ size.
+unfoldable pub decodeWithTen : ℕ → List ℕ → Decoded
+decodeWithTen most s =
+    ifTaken (sizeStep most s) λ size.
     ifTaken (terminalsStep (at size 0) (drop 2 s)) λ terminals.
     let rest = drop 5 s in edgesWithTen (length rest) (bare (at size 0) (at terminals 0) (at terminals 1)) 0 rest
 
-pub record LoopsKept : Type 0 where
+-- At the most points that there may be, `faultUpTo` and `decodeUpTo` are `faultOf` and `decodeOf`.
+pub record LoopsKept (most : ℕ) : Type 0 where
   -- Any other number of the record test than 10, 0 among them, is the one that was given.
-  pub faults : (N : Network) → (faultWithTen N ≡ 10 → ⊥) → faultOf N ≡ faultWithTen N
+  pub faults : (N : Network) → (faultWithTen most N ≡ 10 → ⊥) → faultUpTo most N ≡ faultWithTen most N
   -- So is any other answer of the reader, the record too.
-  pub plans : (s : List ℕ) → (decodeWithTen s .refusal ≡ 10 → ⊥) → decodeOf s ≡ decodeWithTen s
+  pub plans : (s : List ℕ) → (decodeWithTen most s .refusal ≡ 10 → ⊥) → decodeUpTo most s ≡ decodeWithTen most s
   -- A record without loops gets the number that it got, whatever it is.
-  pub loopless : (N : Network) → Loopless N → faultOf N ≡ faultWithTen N
+  pub loopless : (N : Network) → Loopless N → faultUpTo most N ≡ faultWithTen most N
   -- What was accepted is what is accepted and has no loop: records, and plans in bytes.
-  pub accepted : (N : Network) → Stored N → (faultWithTen N ≡ 0) ↔ ((faultOf N ≡ 0) × Loopless N)
-  pub read : (s : List ℕ) → (decodeWithTen s .refusal ≡ 0) ↔ ((decodeOf s .refusal ≡ 0) × Loopless (decodeOf s .network))
+  pub accepted : (N : Network) → Stored N → (faultWithTen most N ≡ 0) ↔ ((faultUpTo most N ≡ 0) × Loopless N)
+  pub read : (s : List ℕ) → (decodeWithTen most s .refusal ≡ 0) ↔ ((decodeUpTo most s .refusal ≡ 0) × Loopless (decodeUpTo most s .network))
   -- Whoever listed a network, if the list was complete it was this one: `CompleteList` and all that it cites are as they were.
   pub lists : (N : Network) (n m : ℕ) (cuts sides cuts′ sides′ : List ℕ) → CompleteList N n cuts sides → CompleteList N m cuts′ sides′
       → SameList n cuts m cuts′ × SameList n sides m sides′

@@ -2,14 +2,16 @@
 -- To believe.
 --
 --   LoopsApart           a loop lies on no route and in no minimal cut, and is never useful; its pair is its point with itself
---   LoopAdded N k v      N with the loop k at v is accepted, as a record and in bytes, and has the useful part, the list and the print of N
---   TenGone              no call gives the refusal 10, which was that of a loop
+--   AsWithout N k v      N with the loop k at v is accepted, as a record and in bytes, and has the useful part, the verdicts, the list and
+--                        the print of N
+--   LoopAdded            so it is for every accepted record, free number and point
+--   TenGone              no call gives the refusal 10, which was that of a loop, and the program does not print it
 use mathlib.Core.List.{List}
 use mathlib.Core.Path.{_≡_}
-use Prim.Native.Nat.{ℕ, _^_}
-use Rattle.bitset.specs.Members.{_∈_}
+use Prim.Native.Nat.{ℕ, _^_, _<_}
+use Rattle.bitset.specs.Members.{_∈_, _⊆_}
 use Rattle.network.specs.declared.Network.{Network}
-use Rattle.network.specs.Record.{Stored, faultOf, withEdge}
+use Rattle.network.specs.Record.{Stored, faultOf, withEdge, present}
 use Rattle.network.specs.Ends.{endsOf, Loop}
 use Rattle.format.specs.Format.{accept, decodeOf, encodeOf, encodedBy}
 use Rattle.graph.specs.Paths.{Minpath}
@@ -17,6 +19,7 @@ use Rattle.graph.specs.Cuts.{Mincut, RelevantEdge}
 use Rattle.connectivity.specs.declared.Verdict.the-variants.{Refused}
 use Rattle.connectivity.specs.Answers.{relevantOf, verdictOf}
 use Rattle.listing.specs.List.{listedBy, cutRowsAfter, sideRowsAfter}
+use Rattle.text.specs.Text.{refusalLine}
 use Rattle.report.specs.Report.{reportOf}
 
 pub record LoopsApart : Type 0 where
@@ -27,15 +30,19 @@ pub record LoopsApart : Type 0 where
   pub pair : (N : Network) (k v : ℕ) → Loop N k v → endsOf N k ≡ 2 ^ v
 
 -- The list call answers alike and leaves the same rows, whatever was lent: count, cuts, sides and later rows, on refusal too.
-pub record LoopAdded (N : Network) (k v : ℕ) : Type 0 where
+pub record AsWithout (N : Network) (k v : ℕ) : Type 0 where
   pub accepted : faultOf (withEdge N k v v) ≡ 0
   pub read : decodeOf (encodeOf (withEdge N k v v)) ≡ accept (withEdge N k v v)
   pub part : relevantOf (withEdge N k v v) ≡ relevantOf N
+  pub verdicts : (c : ℕ) → c ⊆ present N → verdictOf (withEdge N k v v) c ≡ verdictOf N c
   pub list : (cuts sides : List ℕ)
       → (listedBy (withEdge N k v v) cuts sides ≡ listedBy N cuts sides)
       × (cutRowsAfter (withEdge N k v v) cuts sides ≡ cutRowsAfter N cuts sides)
       × (sideRowsAfter (withEdge N k v v) cuts sides ≡ sideRowsAfter N cuts sides)
   pub printed : reportOf (encodeOf (withEdge N k v v)) ≡ reportOf (encodeOf N)
+
+abbrev pub LoopAdded : Type 0
+LoopAdded = (N : Network) → Stored N → faultOf N ≡ 0 → (k v : ℕ) → k < 64 → (k ∈ present N → ⊥) → v < N .nodes → AsWithout N k v
 
 pub record TenGone : Type 0 where
   pub reader : (s : List ℕ) → decodeOf s .refusal ≡ 10 → ⊥
@@ -44,3 +51,4 @@ pub record TenGone : Type 0 where
   pub judging : (N : Network) → Stored N → (c : ℕ) → verdictOf N c ≡ Refused 10 → ⊥
   pub list : (N : Network) (cuts sides : List ℕ) → listedBy N cuts sides .refusal ≡ 10 → ⊥
   pub writer : (N : Network) (lent : List ℕ) → encodedBy N lent .refusal ≡ 10 → ⊥
+  pub program : (s : List ℕ) → reportOf s ≡ refusalLine 10 → ⊥

@@ -1,8 +1,8 @@
 -- An edge is relevant exactly if it is present, its ends differ, and both are relevant.
 -- Assumes nothing.
-use mathlib.Core.Path.{_≡_, refl, sym, _∙_}
-use mathlib.Core.List.{List, [], _∷_, List·Memᴰ, List·Memᴰ·head, List·Memᴰ·not-nil, List·Memᴰ·eq-of-singleton}
-use mathlib.Core.Logic.{inl, inr, ⊎-elim, _↔_, _≢_, Ne·symm}
+use mathlib.Core.Path.{refl, sym, _∙_}
+use mathlib.Core.List.{List, [], _∷_, List·Memᴰ, List·Memᴰ·not-nil, List·Memᴰ·eq-of-singleton}
+use mathlib.Core.Logic.{inl, inr, _↔_, _≢_, Ne·symm}
 use Prim.Native.Nat.{ℕ}
 use Rattle.sequences.specs.Distinct.{Distinct}
 use Rattle.bitset.specs.Members.{_∈_}
@@ -10,7 +10,7 @@ use Rattle.network.specs.declared.Network.{Network}
 use Rattle.network.specs.Record.{firstEnd, secondEnd, present}
 use Rattle.graph.specs.Paths.{Joins, Hop, Leads, nodesFrom, Simple, edgesOf}
 use Rattle.graph.specs.Cuts.{RelevantEdge, RelevantNode}
-use Rattle.graph.proofs.Walks.{edges-nil, edges-cons, joins-sym, joins-ends, ends-met, edges-present}
+use Rattle.graph.proofs.Walks.{edges-cons, joins-sym, ends-met, edges-present}
 use Rattle.graph.proofs.EdgeSets.{joins-stored}
 use Rattle.graph.proofs.Minpaths.{minpath-present}
 use Rattle.graph.proofs.Loops.{no-loop}

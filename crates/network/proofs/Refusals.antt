@@ -3,12 +3,13 @@
 use mathlib.Core.Bool.{Bool, true, false, _||_, true≢false}
 use mathlib.Core.Path.{_≡_, refl, ap}
 use mathlib.Core.List.{List, [], _∷_}
-use mathlib.Core.Logic.{inr}
+use mathlib.Core.Logic.{inl, inr}
 use Prim.Native.Nat.{ℕ, zero, suc, _≤_, _<_}
 use native.Mathlib.Omega.{arith}
 use borrow.Author.Tests.{ltb-false, leb-false, eqb-false}
-use lib.Dec.{T, leb, ltb, eqb}
-use Rattle.sequences.proofs.Tests.{T-or}
+use lib.Dec.{T, leb, ltb, eqb, ltb→lt}
+use Rattle.sequences.specs.Words.{every}
+use Rattle.sequences.proofs.Tests.{T-or, T-then, T-eqb}
 use Rattle.network.specs.Record.{_when_, _then_, among, unlessRefused, sizeFault, outsideFault, terminalFault}
 
 -- Two rules in a row find no fault exactly if neither does.
@@ -91,6 +92,14 @@ pub when-among : (l : List ℕ) (r : ℕ) (b : Bool) → T (among l r) → T (am
 unfolding _when_
 when-among l r true p = p
 when-among l r false p = among-none l
+
+-- What is among numbers below m is below m.
+pub among-lt : (m : ℕ) (l : List ℕ) → 0 < m → T (every (λ k. ltb k m) l) → (r : ℕ) → T (among l r) → r < m
+unfolding among every
+among-lt m [] p t r a = rw (T-eqb r 0 .0 a) p
+among-lt m (k ∷ l) p t r a =
+    let below = T-then (ltb k m) (every (λ k. ltb k m) l) .0 t in
+    elim (T-or (eqb r k) (among l r) .0 a) [ inl e ↦ rw (T-eqb r k .0 e) (ltb→lt k m (below .0)) | inr c ↦ among-lt m l p (below .1) r c ]
 
 -- So is that of two nodes that must be below the node count.
 pub outside-among : (l : List ℕ) (r n a b : ℕ) → T (among l r) → T (among l (outsideFault r n a b))

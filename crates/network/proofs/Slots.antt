@@ -5,7 +5,7 @@
 --   Accepted N       size, terminals and each slot of N have no fault
 use mathlib.Core.Bool.{true, false, _||_, or-false, or-true}
 use mathlib.Core.List.{map, foldr}
-use mathlib.Core.Path.{_≡_, refl, ap, _∙_}
+use mathlib.Core.Path.{_≡_, refl, sym, ap, subst, _∙_}
 use Prim.Native.Nat.{ℕ, zero, suc, _+_, _-_, _≤_, _<_, zero-le}
 use native.Mathlib.Decide.{ℕ-discrete}
 use native.Mathlib.Omega.{arith}
@@ -54,14 +54,18 @@ module _ (N : Network) (stored : Stored N) (k a b : ℕ) (l : k < 64) where
     edges = insert-lt 64 (stored .edges) l;
   }
 
+  -- What holds of the edge's slot and of all others holds of every slot.
+  pub withEdge-slots : (P : ℕ → Slot → Type 0) → P k (true, a, b) → ((j : ℕ) → (j ≡ k → ⊥) → P j (slot N j)) → (j : ℕ) → P j (slot (withEdge N k a b) j)
+  withEdge-slots P here others j = go (ℕ-discrete j k)
+    where
+      go : Dec (j ≡ k) → P j (slot (withEdge N k a b) j)
+      go (yes q) = subst (λ i. P i (slot (withEdge N k a b) i)) (sym q) (subst (P k) (sym withEdge-same) here)
+      go (no d) = subst (P j) (sym (withEdge-other j d)) (others j d)
+
   -- An edge whose ends have no fault leaves the slots without one.
   pub withEdge-faultless : endFault (N .nodes) a b ≡ 0 → ((j : ℕ) → j < 64 → slotFault N j ≡ 0) → (j : ℕ) → j < 64 → slotFault (withEdge N k a b) j ≡ 0
   unfolding withEdge slotFault
-  withEdge-faultless f z j p = go (ℕ-discrete j k)
-    where
-      go : Dec (j ≡ k) → slotFault (withEdge N k a b) j ≡ 0
-      go (yes q) = ap (slotFault (withEdge N k a b)) q ∙ slotFault-of (withEdge N k a b) k withEdge-same ∙ f
-      go (no d) = slotFault-of (withEdge N k a b) j (withEdge-other j d) ∙ z j p
+  withEdge-faultless f none = withEdge-slots (λ j s. j < 64 → slotFaultOf (N .nodes) s ≡ 0) (λ l. f) (λ j d. none j)
 
 -- ---- all slots
 
