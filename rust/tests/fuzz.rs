@@ -336,7 +336,12 @@ fn the_command() {
     assert_eq!(code, Some(0), "{text}");
     assert!(text.ends_with("no difference\n"), "{text}");
 
-    for wrong in [&["--replay", "/no/such/file"][..], &["--cases"], &["-x"]] {
+    for wrong in [
+        &["--replay", "/no/such/file"][..],
+        &["--cases"],
+        &["--without-loops"],
+        &["-x"],
+    ] {
         assert_eq!(run(wrong), (Some(2), String::new()));
     }
 }

@@ -1,4 +1,4 @@
-// The relevant part (the paper's useful part): the nodes that no other node cuts off from both terminals, and the edges that join two of them.
+// The relevant part (the paper's useful part): the nodes that no other node cuts off from both terminals, and the edges between them.
 use crate::RelevantPart;
 use crate::spread::reach;
 use edge_set::EdgeSet;

@@ -1,4 +1,4 @@
--- The demands, what earlier plans keep, then the halls.
+-- The demands, loops, what earlier plans keep, then the halls.
 pub mod DemandOne
 pub mod DemandTwo
 pub mod DemandThree

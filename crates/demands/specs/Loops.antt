@@ -1,4 +1,4 @@
--- Loops, cables with both ends at one point, in the plans that are accepted.
+-- Loops, cables with both ends at one point: what they never do, and what stays as it was where one is added.
 -- To believe.
 --
 --   LoopsApart           a loop lies on no route and in no minimal cut, and is never useful; its pair is its point with itself

@@ -69,6 +69,9 @@ impl Options {
                 _ => return Err(format!("{name} is no option")),
             }
         }
+        if options.without_loops && !options.digest {
+            return Err("--without-loops goes with --digest alone".into());
+        }
         Ok(options)
     }
 }
