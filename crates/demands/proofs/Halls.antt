@@ -8,7 +8,7 @@ use Prim.Native.Nat.{ℕ, _^_, _<_}
 use native.Mathlib.Omega.{arith}
 use lib.Dec.{T, eqb}
 use lib.ListN.{length, getD}
-use Rattle.sequences.specs.Words.{every, passing}
+use Rattle.sequences.specs.Words.{every, passing, tabulate}
 use Rattle.sequences.proofs.Words.{T-every}
 use Rattle.sequences.proofs.Places.{mem-at}
 use Rattle.bitset.specs.Members.{has, insert, _∖_, size, subsets, membersFrom}
@@ -18,7 +18,7 @@ use Rattle.network.specs.Record.{_when_, _then_, sizeFault, outsideFault, bare,
 use Rattle.format.specs.Format.{numberFault, sizeRefusal, terminalsRefusal, edgeRefusal, endRefusal, sizeStep, terminalsStep, edgeStep, ifTaken, edges, decodeUpTo, decodeOf}
 use Rattle.format.proofs.Reading.{accepts, decode-plan}
 use Rattle.sequences.specs.Counts.{countIf}
-use Rattle.widths.specs.Widths.{tabulate, widthsOf}
+use Rattle.widths.specs.Widths.{widthsOf}
 use Rattle.graph.specs.Cuts.{only, Cut, Mincut}
 use Rattle.graph.specs.Reach.{addIf, across, roundOver, rounds, reachOf}
 use Rattle.graph.specs.CutTests.{severed, cutTest, allNeeded, mincutTest}

@@ -7,6 +7,7 @@ use Prim.Native.Nat.{ℕ, zero, suc, _<_}
 use native.Mathlib.Nat.{le-of-suc-le-suc, not-suc-le-zero, zero-lt-suc}
 use native.Mathlib.Omega.{arith}
 use lib.ListN.{length, getD}
+use Rattle.sequences.specs.Words.{tabulate}
 
 -- What stands at a place of a list is a member.
 pub mem-at : {A : Type 0} (l : List A) (i : ℕ) (d : A) → i < length l → List·Memᴰ (getD l i d) l
@@ -40,6 +41,19 @@ pub getD-map : (f : ℕ → ℕ) (l : List ℕ) (i : ℕ) → i < length l → g
 getD-map f [] i h = absurd (not-suc-le-zero h)
 getD-map f (x ∷ l) zero h = refl
 getD-map f (x ∷ l) (suc i) h = getD-map f l i (le-of-suc-le-suc h)
+
+-- A table of n entries has n.
+pub length-tabulate : (n : ℕ) (f : ℕ → ℕ) → length (tabulate n f) ≡ n
+unfolding tabulate
+length-tabulate zero f = refl
+length-tabulate (suc n) f = ap suc (length-tabulate n (λ k. f (suc k)))
+
+-- The entry at k is what the function says of k.
+pub getD-tabulate : (n : ℕ) (f : ℕ → ℕ) (k : ℕ) → k < n → getD (tabulate n f) k 0 ≡ f k
+unfolding tabulate
+getD-tabulate zero f k h = absurd (not-suc-le-zero h)
+getD-tabulate (suc n) f zero h = refl
+getD-tabulate (suc n) f (suc k) h = getD-tabulate n (λ j. f (suc j)) k (le-of-suc-le-suc h)
 
 -- A permutation is as long.
 pub perm-length : {k l : List ℕ} → List·Permᴰ k l → length k ≡ length l

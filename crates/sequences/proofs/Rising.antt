@@ -1,15 +1,16 @@
--- Rising lists: an earlier place holds a smaller number, and two with the same members are equal; and the same of rising rows.
+-- Rising lists: an earlier place holds a smaller number, and two with the same members are equal; so are rows that rise.
 -- Assumes nothing.
-use mathlib.Core.Path.{_≡_, refl, sym, ap₂}
-use mathlib.Core.List.{List, [], _∷_, Pairwise·of-cons, rel-of-pairwise-cons, List·Memᴰ, List·Memᴰ·head, List·Memᴰ·tail, List·Memᴰ·not-nil, List·Memᴰ·cases-cons}
-use mathlib.Core.Logic.{_⊎_, inl, inr, _↔_}
-use Prim.Native.Nat.{ℕ, zero, suc, _≤_, _<_}
-use native.Mathlib.Nat.{not-suc-le-zero, le-of-suc-le-suc, le-refl}
-use native.Mathlib.Decide.{decLt}
+use mathlib.Core.Path.{_≡_, refl, sym, ap, ap₂, _∙_}
+use mathlib.Core.List.{List, [], _∷_, Pairwise·nil, Pairwise·cons, Pairwise·of-cons, rel-of-pairwise-cons, List·Memᴰ, List·Memᴰ·head, List·Memᴰ·tail, List·Memᴰ·not-nil, List·Memᴰ·cases-cons}
+use mathlib.Core.Logic.{_⊎_, inl, inr, _↔_, Iff·trans, Iff·symm, ∥∥₁-elim}
+use Prim.Native.Nat.{ℕ, zero, suc, _<_}
+use native.Mathlib.Nat.{not-suc-le-zero, le-of-suc-le-suc, lt-trans}
+use native.Mathlib.Bridge.{le-prop}
 use native.Mathlib.Omega.{arith}
 use lib.ListN.{length, getD}
 use Rattle.sequences.specs.Rising.{Rising}
-use Rattle.sequences.proofs.Places.{mem-at}
+use Rattle.sequences.specs.Words.{tabulate}
+use Rattle.sequences.proofs.Places.{mem-at, at-mem, mem-place, length-tabulate, getD-tabulate}
 
 -- Of two rising lists with the same members, the first numbers are equal.
 first-same : (x y : ℕ) (l k : List ℕ) → Rising (x ∷ l) → Rising (y ∷ k) → ((c : ℕ) → List·Memᴰ c (x ∷ l) ↔ List·Memᴰ c (y ∷ k)) → x ≡ y
@@ -45,34 +46,37 @@ rising-places (x ∷ l) r i zero h k = absurd (not-suc-le-zero h)
 rising-places (x ∷ l) r zero (suc j) h k = rel-of-pairwise-cons r ∣ mem-at l j 0 (le-of-suc-le-suc k) ∣₁
 rising-places (x ∷ l) r (suc i) (suc j) h k = rising-places l (Pairwise·of-cons r) i j (le-of-suc-le-suc h) (le-of-suc-le-suc k)
 
--- Of two runs of rising rows, n of f and m of g, in which the same numbers stand, each row of f is the one of g at its place.
-module _ (f g : ℕ → ℕ) (n m : ℕ) (rises : (i j : ℕ) → i < j → j < n → f i < f j) (rises′ : (i j : ℕ) → i < j → j < m → g i < g j)
-    (to : (i : ℕ) → i < n → (j : ℕ) × (j < m) × (g j ≡ f i)) (from : (j : ℕ) → j < m → (i : ℕ) × (i < n) × (f i ≡ g j)) where
-  -- If so below i, then at i.
-  row-same : (i : ℕ) → ((j : ℕ) → j < i → (j < m) × (f j ≡ g j)) → i < n → (i < m) × (f i ≡ g i)
-  row-same i below h =
-      let (k, inside, e) = to i h in
-      go k inside e (decLt k i)
-    where
-      here : (k : ℕ) → k < m → g k ≡ f i → i ≤ k → (l : ℕ) → l < n → f l ≡ g i → Dec (l < i) → Dec (i < k) → Dec (i < l) → f i ≡ g i
-      here k inside e h′ l inside′ e′ (yes q) d d′ = let b = below l q in absurd (omega (arith, rises′ l i q (omega arith), b .1))
-      here k inside e h′ l inside′ e′ (no q) (yes d) (yes d′) = absurd (omega (arith, rises′ i k d inside, rises i l d′ inside′))
-      here k inside e h′ l inside′ e′ (no q) (yes d) (no d′) = let same : l ≡ i = omega arith in rw same at e′
-      here k inside e h′ l inside′ e′ (no q) (no d) d′ = let same : k ≡ i = omega arith in sym (rw same at e)
+-- A list in which an earlier place holds a smaller number rises.
+pub places-rising : (l : List ℕ) → ((i j : ℕ) → i < j → j < length l → getD l i 0 < getD l j 0) → Rising l
+places-rising [] r = Pairwise·nil
+places-rising (x ∷ l) r =
+    Pairwise·cons
+    (λ y m. ∥∥₁-elim m le-prop (at-mem (λ y. x < y) l (λ j h. r 0 (suc j) (omega arith) (omega arith))))
+    (places-rising l (λ i j h k. r (suc i) (suc j) (omega arith) (omega arith)))
 
-      go : (k : ℕ) → k < m → g k ≡ f i → Dec (k < i) → (i < m) × (f i ≡ g i)
-      go k inside e (yes q) = let b = below k q in absurd (omega (arith, rises k i q h, b .1))
-      go k inside e (no q) =
-          let (l, inside′, e′) = from i (omega arith) in
-          (omega arith, here k inside e (omega arith) l inside′ e′ (decLt l i) (decLt i k) (decLt i l))
+-- A table of rising values rises, and its members are the values.
+table-rises : (n : ℕ) (f : ℕ → ℕ) → ((i j : ℕ) → i < j → j < n → f i < f j) → Rising (tabulate n f)
+table-rises n f rises = places-rising (tabulate n f) (λ i j h k.
+    let l : j < n = rw (length-tabulate n f) at k in
+    rw (getD-tabulate n f i (lt-trans h l), getD-tabulate n f j l) (rises i j h l))
 
-  rows-below : (i : ℕ) → i ≤ n → (j : ℕ) → j < i → (j < m) × (f j ≡ g j)
-  rows-below zero h j l = absurd (not-suc-le-zero l)
-  rows-below (suc i) h j l = go (rows-below i (omega arith)) (decLt j i)
-    where
-      go : ((j : ℕ) → j < i → (j < m) × (f j ≡ g j)) → Dec (j < i) → (j < m) × (f j ≡ g j)
-      go below (yes q) = below j q
-      go below (no q) = let same : j ≡ i = omega arith in rw same (row-same i below (omega arith))
+mem-table : (n : ℕ) (f : ℕ → ℕ) (c : ℕ) → List·Memᴰ c (tabulate n f) ↔ ((i : ℕ) × (i < n) × (f i ≡ c))
+mem-table n f c =
+    let place = mem-place (tabulate n f) c in (
+      λ m.
+          let (i, h, e) = place .0 m in
+          let l : i < n = rw (length-tabulate n f) at h in
+          (i, l, sym (getD-tabulate n f i l) ∙ e),
+      λ (i, h, e). place .1 (i, rw (length-tabulate n f) h, getD-tabulate n f i h ∙ e),
+    )
 
-  pub rows-same : (i : ℕ) → i < n → (i < m) × (f i ≡ g i)
-  rows-same = rows-below n (le-refl n)
+-- Rising rows, n of f and m of g, in which the same numbers stand, are equally many and equal.
+pub rows-unique : (f g : ℕ → ℕ) (n m : ℕ)
+    → ((i j : ℕ) → i < j → j < n → f i < f j) → ((i j : ℕ) → i < j → j < m → g i < g j)
+    → ((c : ℕ) → ((i : ℕ) × (i < n) × (f i ≡ c)) ↔ ((i : ℕ) × (i < m) × (g i ≡ c)))
+    → (n ≡ m) × ((i : ℕ) → i < n → f i ≡ g i)
+rows-unique f g n m rises rises′ same =
+    let e : tabulate n f ≡ tabulate m g = rising-unique (tabulate n f) (tabulate m g) (table-rises n f rises) (table-rises m g rises′)
+    (λ c. Iff·trans (mem-table n f c) (Iff·trans (same c) (Iff·symm (mem-table m g c)))) in
+    let counts : n ≡ m = sym (length-tabulate n f) ∙ ap length e ∙ length-tabulate m g in
+    (counts, λ i h. sym (getD-tabulate n f i h) ∙ ap (λ (l : List ℕ). getD l i 0) e ∙ getD-tabulate m g i (rw counts at h))

@@ -16,25 +16,14 @@ use lib.Seq.{take-suc, take-length, length-take-le, ext-getD, getD-set-same, get
 use Rattle.bitset.specs.Members.{size}
 use Rattle.bitset.proofs.Size.{size-le}
 use Rattle.sequences.specs.Counts.{bit, countIf}
-use Rattle.widths.specs.Widths.{tabulate, sum, widthsOf}
+use Rattle.sequences.specs.Words.{tabulate}
+use Rattle.sequences.proofs.Places.{length-tabulate, getD-tabulate}
+use Rattle.widths.specs.Widths.{sum, widthsOf}
 use Rattle.sequences.proofs.Counts.{count-nil, count-cons, count-append, count-le}
 
 -- A width has a place in the table.
 pub width-lt : (c : ℕ) {w : ℕ} → w ≡ size 64 c → w < 65
 width-lt c e = omega (arith, size-le 64 c)
-
--- A table of n entries has n.
-length-tabulate : (n : ℕ) (f : ℕ → ℕ) → length (tabulate n f) ≡ n
-unfolding tabulate
-length-tabulate zero f = refl
-length-tabulate (suc n) f = ap suc (length-tabulate n (λ k. f (suc k)))
-
--- The entry at k is what the function says of k.
-getD-tabulate : (n : ℕ) (f : ℕ → ℕ) (k : ℕ) → k < n → getD (tabulate n f) k 0 ≡ f k
-unfolding tabulate
-getD-tabulate zero f k h = absurd (not-suc-le-zero h)
-getD-tabulate (suc n) f zero h = refl
-getD-tabulate (suc n) f (suc k) h = getD-tabulate n (λ j. f (suc j)) k (le-of-suc-le-suc h)
 
 -- There are 65 counts.
 length-widths : (cuts : List ℕ) → length (widthsOf cuts) ≡ 65

@@ -1,18 +1,14 @@
 -- The width of a row is the number of edges in its cut; the table counts the rows of each width.
 -- To believe.
 --
---   tabulate n f         f 0, f 1, .., f (n - 1)
 --   sum l                the sum of the numbers of l
 --   widthsOf cuts        for each width from 0 to 64, how many of the cuts have it
 use mathlib.Core.List.{List, [], _∷_}
-use Prim.Native.Nat.{ℕ, zero, suc, _+_}
+use Prim.Native.Nat.{ℕ, _+_}
 use lib.Dec.{eqb}
 use Rattle.bitset.specs.Members.{size}
+use Rattle.sequences.specs.Words.{tabulate}
 use Rattle.sequences.specs.Counts.{countIf}
-
-unfoldable pub tabulate : ℕ → (ℕ → ℕ) → List ℕ
-tabulate zero f = []
-tabulate (suc n) f = f 0 ∷ tabulate n (λ k. f (suc k))
 
 unfoldable pub sum : List ℕ → ℕ
 sum [] = 0
