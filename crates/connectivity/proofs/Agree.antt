@@ -7,12 +7,13 @@ use Rattle.sequences.specs.Words.{every}
 use Rattle.bitset.specs.Members.{_⊆_, _∖_, members}
 use Rattle.network.specs.declared.Network.{Network}
 use Rattle.network.specs.Record.{Stored, faultOf, present}
+use Rattle.network.proofs.Sets.{set-none}
 use Rattle.graph.specs.CutTests.{allNeeded}
 use Rattle.graph.proofs.Sound.{Sound, accepted-sound}
 use Rattle.graph.proofs.Agree.{Agree, nodes-agree, edges-agree, severed-agree}
 use Rattle.connectivity.specs.declared.Verdict.the-variants.{NotCut, NotMinimal, Minimal}
 use Rattle.connectivity.specs.Answers.{relevantOf, verdictOn, verdictOf}
-use Rattle.connectivity.proofs.Answers.{judge-none, verdict-judged}
+use Rattle.connectivity.proofs.Answers.{verdict-judged}
 
 module _ (N M : Network) (stored : Stored N) (stored′ : Stored M) (ok : faultOf N ≡ 0) (ok′ : faultOf M ≡ 0) (a : Agree N M) where
   sound : Sound N
@@ -37,4 +38,4 @@ module _ (N M : Network) (stored : Stored N) (stored′ : Stored M) (ok : faultO
 
   pub verdict-agrees : (c : ℕ) → c ⊆ present N → c ⊆ present M → verdictOf N c ≡ verdictOf M c
   verdict-agrees c within within′ =
-      verdict-judged N c (judge-none N c ok within) ∙ on-agrees c ∙ sym (verdict-judged M c (judge-none M c ok′ within′))
+      verdict-judged N c (set-none N c ok within) ∙ on-agrees c ∙ sym (verdict-judged M c (set-none M c ok′ within′))

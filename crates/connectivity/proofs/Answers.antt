@@ -6,19 +6,18 @@ use mathlib.Core.Logic.{_↔_}
 use Prim.Native.Nat.{ℕ, zero, suc, _^_, _<_}
 use native.Mathlib.Nat.{zero-lt-suc}
 use native.Mathlib.Omega.{arith}
-use borrow.Author.Tests.{eq-eqb, ne-eqb, eqb-true, not-false}
 use denote.Floats.{is-true, passes}
-use lib.Bits.{bitAnd}
-use lib.Dec.{T, eqb}
+use lib.Dec.{T}
 use Rattle.sequences.proofs.Words.{T-every}
 use Rattle.bitset.specs.Members.{_⊆_, _∖_, members, _∈_}
-use Rattle.bitset.proofs.Subsets.{same-test, subset-and}
+use Rattle.bitset.proofs.Subsets.{same-test}
 use Rattle.sequences.proofs.Tests.{T-not, T-then}
 use Rattle.bitset.proofs.Sets.{member-lt}
 use Rattle.bitset.proofs.MemberList.{in-members}
 use Rattle.network.specs.declared.Network.{Network}
-use Rattle.network.specs.Record.{_when_, unlessRefused, faultOf, Stored, present}
-use Rattle.network.proofs.Refusals.{then-none, none-then, some-then, when-none, none-when, some-when, refused-some}
+use Rattle.network.specs.Record.{unlessRefused, faultOf, setFault, Stored, present}
+use Rattle.network.proofs.Refusals.{refused-some}
+use Rattle.network.proofs.Sets.{set-none, set-ok}
 use Rattle.graph.specs.Reach.{Bounded}
 use Rattle.graph.specs.Cuts.{Cut, Mincut}
 use Rattle.graph.specs.CutTests.{severed, cutTest, allNeeded, mincutTest}
@@ -29,7 +28,7 @@ use Rattle.graph.proofs.Relevant.{in-relevantNodes, in-relevantEdges}
 use Rattle.connectivity.specs.declared.RelevantPart.{RelevantPart}
 use Rattle.connectivity.specs.declared.Verdict.{Verdict}
 use Rattle.connectivity.specs.declared.Verdict.the-variants.{NotCut, NotMinimal, Minimal, Refused}
-use Rattle.connectivity.specs.Answers.{partFrom, relevantOf, PartMeans, judgeFault, verdictOn, verdictOf, Says, VerdictMeans}
+use Rattle.connectivity.specs.Answers.{partFrom, relevantOf, PartMeans, verdictOn, verdictOf, Says, VerdictMeans}
 
 -- ---- the relevant part
 
@@ -88,40 +87,13 @@ module _ (N : Network) (c : ℕ) where
 
   -- ---- the verdict from the tests
 
-  -- A fault of the record refuses.
-  pub judge-record : (r : ℕ) → r ≡ faultOf N → (r ≡ 0 → ⊥) → judgeFault N c ≡ r
-  unfolding judgeFault
-  judge-record r fault some = rw (← fault) (some-then r _ (omega arith))
-
-  -- An edge that is not present refuses.
-  pub judge-absent : faultOf N ≡ 0 → (c ⊆ present N → ⊥) → judgeFault N c ≡ 14
-  unfolding judgeFault
-  judge-absent ok out =
-      none-then _ ok
-      ∙ some-when 14 (ap not (ne-eqb (bitAnd c (present N)) c (λ e. out (subset-and c (present N) .1 e))))
-
-  -- A set of present edges of an accepted network is not refused.
-  pub judge-none : faultOf N ≡ 0 → c ⊆ present N → judgeFault N c ≡ 0
-  unfolding judgeFault
-  judge-none ok within =
-      none-then _ ok
-      ∙ none-when 14 (ap not (eq-eqb (bitAnd c (present N)) c (subset-and c (present N) .0 within)))
-
-  -- What is not refused is a set of present edges of an accepted network.
-  judge-ok : judgeFault N c ≡ 0 → (faultOf N ≡ 0) × (c ⊆ present N)
-  unfolding judgeFault
-  judge-ok none =
-      let b : Bool = eqb (bitAnd c (present N)) c in
-      let p = then-none (faultOf N) (14 when not b) none in
-      (p .0, subset-and c (present N) .1 (eqb-true _ _ (not-false b (when-none 14 (not b) (zero-lt-suc 13) (p .1)))))
-
   -- The verdict beside a refusal is the refusal.
-  pub verdict-refused : (r : ℕ) → judgeFault N c ≡ r → (r ≡ 0 → ⊥) → Refused r ≡ verdictOf N c
+  pub verdict-refused : (r : ℕ) → setFault N c ≡ r → (r ≡ 0 → ⊥) → Refused r ≡ verdictOf N c
   unfolding verdictOf
   verdict-refused r fault some = rw fault (sym (refused-some r (verdictOn N c) (Refused r) some))
 
   -- Without a refusal it is the verdict on the set.
-  pub verdict-judged : judgeFault N c ≡ 0 → verdictOf N c ≡ verdictOn N c
+  pub verdict-judged : setFault N c ≡ 0 → verdictOf N c ≡ verdictOn N c
   unfolding verdictOf
   verdict-judged none = rw none
 
@@ -129,17 +101,17 @@ module _ (N : Network) (c : ℕ) where
     -- A set that severs nothing is not a cut.
     pub verdict-not-cut : severed N c ≡ false → NotCut ≡ verdictOf N c
     unfolding verdictOn
-    verdict-not-cut e = sym (verdict-judged (judge-none ok within) ∙ rw (e, verdictOn))
+    verdict-not-cut e = sym (verdict-judged (set-none N c ok within) ∙ rw (e, verdictOn))
 
     -- A set that severs, and whose members are all needed, is minimal.
     pub verdict-minimal : severed N c ≡ true → allNeeded N c ≡ true → Minimal ≡ verdictOf N c
     unfolding verdictOn
-    verdict-minimal e f = sym (verdict-judged (judge-none ok within) ∙ rw (e, f, verdictOn))
+    verdict-minimal e f = sym (verdict-judged (set-none N c ok within) ∙ rw (e, f, verdictOn))
 
     -- A set that severs, and whose members are not all needed, is not minimal.
     pub verdict-not-minimal : severed N c ≡ true → allNeeded N c ≡ false → NotMinimal ≡ verdictOf N c
     unfolding verdictOn
-    verdict-not-minimal e f = sym (verdict-judged (judge-none ok within) ∙ rw (e, f, verdictOn))
+    verdict-not-minimal e f = sym (verdict-judged (set-none N c ok within) ∙ rw (e, f, verdictOn))
 
 -- ---- the verdict is right
 
@@ -170,10 +142,10 @@ module _ (N : Network) (stored : Stored N) (c : ℕ) where
   -- What the verdict says holds, whatever the record and the set.
   pub verdict-right : Says N c (verdictOf N c)
   unfolding verdictOf
-  verdict-right = go (judgeFault N c) refl
+  verdict-right = go (setFault N c) refl
     where
-      go : (r : ℕ) → judgeFault N c ≡ r → Says N c (unlessRefused r (verdictOn N c) (Refused r))
-      go zero e = let p = judge-ok N c e in on-right N (accepted-sound N stored (p .0) .bounded) c (p .1)
+      go : (r : ℕ) → setFault N c ≡ r → Says N c (unlessRefused r (verdictOn N c) (Refused r))
+      go zero e = let p = set-ok N c e in on-right N (accepted-sound N stored (p .0) .bounded) c (p .1)
       go (suc r) e = (e, zero-lt-suc r)
 
   -- Beside the answer stands what it means.
@@ -184,8 +156,8 @@ module _ (N : Network) (stored : Stored N) (c : ℕ) where
   pub verdict-iff : faultOf N ≡ 0 → c ⊆ present N → (v : Verdict) → (verdictOf N c ≡ v) ↔ Says N c v
   verdict-iff ok within v = (λ e. rw e at verdict-right, go (verdictOf N c) v verdict-right)
     where
-      accepted : (r : ℕ) → (judgeFault N c ≡ r) × (0 < r) → ⊥
-      accepted r p = omega (arith, judge-none N c ok within)
+      accepted : (r : ℕ) → (setFault N c ≡ r) × (0 < r) → ⊥
+      accepted r p = omega (arith, set-none N c ok within)
 
       go : (w v : Verdict) → Says N c w → Says N c v → w ≡ v
       go NotCut NotCut p q = refl

@@ -5,22 +5,19 @@
 --   relevantOf N         the relevant part of N (the paper's useful part): its first fault beside two empty sets, else 0 beside the
 --                        relevant nodes and edges
 --   PartMeans N r n e    what the refusal r, the nodes n and the edges e mean as the relevant part of N
---   judgeFault N c       the refusal of judging c: the first fault of N, then 14 for an edge that is not present
 --   verdictOn N c        what c is, where nothing is refused  [computed: verdict-iff (connectivity/proofs/Answers)]
 --   verdictOf N c        what c is, or the refusal
 --   Says N c v           what the verdict v says of c
 --   VerdictMeans N c v   what the verdict v on c means
 --   VerdictNumbers       the numbers of a verdict: that of the refusal, and that of the verdict
 --   numbersOf v          the numbers of each case: that of the refusal is 0 beside a verdict, that of the verdict 0 beside a refusal
-use mathlib.Core.Bool.{true, false, not}
+use mathlib.Core.Bool.{true, false}
 use mathlib.Core.Logic.{_↔_}
 use mathlib.Core.Path.{_≡_}
 use Prim.Native.Nat.{ℕ, _<_}
-use lib.Bits.{bitAnd}
-use lib.Dec.{eqb}
 use Rattle.bitset.specs.Members.{_∈_}
 use Rattle.network.specs.declared.Network.{Network}
-use Rattle.network.specs.Record.{_when_, _then_, unlessRefused, faultOf, Stored, present}
+use Rattle.network.specs.Record.{unlessRefused, faultOf, setFault, Stored}
 use Rattle.graph.specs.Cuts.{Cut, Mincut, RelevantEdge, RelevantNode}
 use Rattle.graph.specs.CutTests.{severed, allNeeded}
 use Rattle.graph.specs.Relevant.{relevantNodes, relevantEdges}
@@ -44,9 +41,6 @@ pub record PartMeans (N : Network) (r n e : ℕ) : Type 0 where
 
 -- ---- judging
 
-unfoldable pub judgeFault : Network → ℕ → ℕ
-judgeFault N c = faultOf N then 14 when not (eqb (bitAnd c (present N)) c)
-
 -- The verdict on a set of present edges of an accepted network.
 unfoldable pub verdictOn : Network → ℕ → Verdict
 verdictOn N c =
@@ -56,14 +50,14 @@ verdictOn N c =
     ]
 
 unfoldable pub verdictOf : Network → ℕ → Verdict
-verdictOf N c = let r = judgeFault N c in unlessRefused r (verdictOn N c) (Refused r)
+verdictOf N c = let r = setFault N c in unlessRefused r (verdictOn N c) (Refused r)
 
 -- A verdict by the definitions of graph theory.
 abbrev pub Says : Network → ℕ → Verdict → Type 0
 Says N c NotCut = Cut N c → ⊥
 Says N c NotMinimal = Cut N c × (Mincut N c → ⊥)
 Says N c Minimal = Mincut N c
-Says N c (Refused r) = (judgeFault N c ≡ r) × (0 < r)
+Says N c (Refused r) = (setFault N c ≡ r) × (0 < r)
 
 pub record VerdictMeans (N : Network) (c : ℕ) (v : Verdict) : Type 0 where
   pub stored : Stored N

@@ -3,7 +3,6 @@ use crate::Verdict;
 use crate::spread::reach;
 use edge_set::EdgeSet;
 use network::Network;
-use network::refusal::EDGE_NOT_PRESENT;
 use node_set::NodeSet;
 ghost use mathlib.Core.Path.{_≡_};
 ghost use Rattle.network.specs.Record.{faultOf};
@@ -45,12 +44,9 @@ pub fn classify(network: Network, set: EdgeSet) -> Verdict
     ensures { λ r. ⌜ r ≡ verdictOf network (set .0) ⌝ }
     ensures means { λ r. ⌜ VerdictMeans network (set .0) r ⌝ }
 {
-    let refusal = network::fault(network);
+    let refusal = network::set_fault(network, set);
     if refusal != 0 {
         return Verdict::Refused(refusal);
-    }
-    if !set.is_subset(network.present) {
-        return Verdict::Refused(EDGE_NOT_PRESENT);
     }
     if !severed(network, set) {
         return Verdict::NotCut;

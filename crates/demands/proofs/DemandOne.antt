@@ -18,6 +18,7 @@ use Rattle.network.specs.Record.{Stored, faultOf, present}
 use Rattle.network.specs.Rules.{Rules}
 use Rattle.network.proofs.Refusals.{none-then, some-then, some-when, none-when, refused-none, refused-some}
 use Rattle.network.proofs.Rules.{fault-rules}
+use Rattle.network.proofs.Sets.{set-record, set-absent, set-none}
 use Rattle.format.specs.declared.Encoded.{Encoded}
 use Rattle.format.specs.Format.{accept, refuse, decodeOf, encodeOf, encodeRefusal, encodedBy, bytesAfter}
 use Rattle.format.proofs.Reading.{accepts, decode-plan, decode-answer}
@@ -30,7 +31,7 @@ use Rattle.graph.proofs.Relevant.{in-relevantNodes, in-relevantEdges}
 use Rattle.connectivity.specs.declared.Verdict.{Verdict}
 use Rattle.connectivity.specs.declared.Verdict.the-variants.{NotCut, NotMinimal, Minimal, Refused}
 use Rattle.connectivity.specs.Answers.{relevantOf, verdictOf, Says, numbersOf}
-use Rattle.connectivity.proofs.Answers.{part-refused, part-accepted, judge-record, judge-absent, judge-none, verdict-refused, verdict-right}
+use Rattle.connectivity.proofs.Answers.{part-refused, part-accepted, verdict-refused, verdict-right}
 use Rattle.listing.specs.declared.Listed.{Listed}
 use Rattle.listing.specs.List.{mincuts, sourceSides, listedBy, cutRowsAfter, sideRowsAfter}
 use Rattle.listing.proofs.Refusals.{Case, faulty, unpaired, outnumbered, complete, call-case, refusal-none}
@@ -93,13 +94,13 @@ judging N stored c = go (ℕ-discrete (faultOf N) 0) (ℕ-discrete (bitAnd c (pr
     unrefused ok within NotCut s = refl
     unrefused ok within NotMinimal s = refl
     unrefused ok within Minimal s = refl
-    unrefused ok within (Refused r) s = absurd (omega (arith, judge-none N c ok within, s .0, s .1))
+    unrefused ok within (Refused r) s = absurd (omega (arith, set-none N c ok within, s .0, s .1))
 
     go : Dec (faultOf N ≡ 0) → Dec (bitAnd c (present N) ≡ c) → JudgingEnds N c (verdictOf N c)
-    go (no f) d = subst (JudgingEnds N c) (verdict-refused N c (faultOf N) (judge-record N c (faultOf N) refl f) f) (JudgingEnds.faulty (some f))
+    go (no f) d = subst (JudgingEnds N c) (verdict-refused N c (faultOf N) (set-record N c (faultOf N) refl f) f) (JudgingEnds.faulty (some f))
     go (yes ok) (no d) =
         let out : c ⊆ present N → ⊥ = λ within. d (subset-and c (present N) .0 within) in
-        subst (JudgingEnds N c) (verdict-refused N c 14 (judge-absent N c ok out) (λ e. omega arith)) (JudgingEnds.absent (rules N ok) out)
+        subst (JudgingEnds N c) (verdict-refused N c 14 (set-absent N c ok out) (λ e. omega arith)) (JudgingEnds.absent (rules N ok) out)
     go (yes ok) (yes e) =
         let within : c ⊆ present N = subset-and c (present N) .1 e in
         let says : Says N c (verdictOf N c) = verdict-right N stored c in

@@ -12,7 +12,7 @@ use Rattle.sequences.specs.Words.{every}
 use Rattle.bitset.specs.Members.{_∈_}
 use Rattle.bitset.proofs.Subsets.{⊆-trans, ⊆-insert}
 use Rattle.network.specs.declared.Network.{Network}
-use Rattle.network.specs.Record.{_when_, among, unlessRefused, Stored, Slot, faultOf, withEdge, present}
+use Rattle.network.specs.Record.{_when_, among, unlessRefused, Stored, Slot, faultOf, setFault, withEdge, present}
 use Rattle.network.specs.Ends.{Loop}
 use Rattle.network.proofs.Refusals.{then-other, when-other, among-lt}
 use Rattle.network.proofs.Rules.{none-outside}
@@ -26,7 +26,7 @@ use Rattle.graph.specs.Paths.{Joins}
 use Rattle.graph.proofs.Loops.{loop-minpath, loop-mincut, loop-relevant}
 use Rattle.graph.proofs.Agree.{Agree}
 use Rattle.connectivity.specs.declared.Verdict.the-variants.{Refused}
-use Rattle.connectivity.specs.Answers.{relevantOf, judgeFault, verdictOf, Says}
+use Rattle.connectivity.specs.Answers.{relevantOf, verdictOf, Says}
 use Rattle.connectivity.proofs.Answers.{part-refusal, verdict-right}
 use Rattle.connectivity.proofs.Agree.{part-agrees, verdict-agrees}
 use Rattle.listing.specs.List.{mincuts, sourceSides, listRefusal, listedBy}
@@ -115,7 +115,7 @@ unfolding among
 test N = not-fault N 10 (λ t. t)
 
 judging : (N : Network) → Stored N → (c : ℕ) → verdictOf N c ≡ Refused 10 → ⊥
-unfolding judgeFault
+unfolding setFault
 judging N stored c e =
     let said : Says N c (Refused 10) = subst (Says N c) e (verdict-right N stored c) in
     then-other (faultOf N) (test N) (when-other 14 _ (λ e. omega arith) (omega arith)) (said .0)

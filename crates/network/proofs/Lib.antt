@@ -4,3 +4,4 @@ pub mod Slots
 pub mod Rules
 pub mod Numbers
 pub mod Ends
+pub mod Sets

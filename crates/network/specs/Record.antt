@@ -27,6 +27,7 @@
 --   recordRefusals   the numbers that the record test can give  [working]
 --   faultUpTo most N the record's first fault, 0 if it has none, where so many points are the most
 --   faultOf N        the same with the most that there may be; a record is accepted if it is 0
+--   setFault N c     the refusal of a call on N and a set of edges c: the record's first fault, then 14 for an edge that is not present
 --
 -- Records:
 --   assembled nodes source sink edges first second     a network from its fields
@@ -35,10 +36,11 @@
 --   noNetwork        the all-zero record
 --   withEdge N k a b     N with the edge k from a to b
 --   Stored N         what the types of the code say of any record
-use mathlib.Core.Bool.{Bool, cond, _||_}
+use mathlib.Core.Bool.{Bool, cond, not, _||_}
 use mathlib.Core.List.{List, [], _∷_, map, foldr}
 use mathlib.Core.Path.{_≡_}
 use Prim.Native.Nat.{ℕ, zero, suc, _<_, _^_}
+use lib.Bits.{bitAnd}
 use lib.Dec.{leb, ltb, eqb}
 use lib.ListN.{length, getD, set, replicate}
 use Rattle.sequences.specs.Words.{range}
@@ -135,6 +137,10 @@ faultUpTo most N = sizeFault most (N .nodes) then terminalFault (N .nodes) (N .s
 
 abbrev pub faultOf : Network → ℕ
 faultOf = faultUpTo nodeWidth
+
+-- 14: a set holds an edge that is not present
+unfoldable pub setFault : Network → ℕ → ℕ
+setFault N c = faultOf N then 14 when not (eqb (bitAnd c (present N)) c)
 
 -- ---- records
 

@@ -2,13 +2,15 @@
 use crate::Network;
 use crate::refusal::ABSENT_EDGE_NOT_ZERO;
 use crate::refusal::BAD_NODE_COUNT;
+use crate::refusal::EDGE_NOT_PRESENT;
 use crate::refusal::END_OUTSIDE;
 use crate::refusal::SAME_TERMINALS;
 use crate::refusal::TERMINAL_OUTSIDE;
+use edge_set::EdgeSet;
 use node_set::NODE_WIDTH;
 ghost use mathlib.Core.Path.{_≡_};
 ghost use Rattle.node_set.specs.Width.{nodeWidth};
-ghost use Rattle.network.specs.Record.{sizeFault, outsideFault, terminalFault, endFault, absentFault, slotFaultOf, slotsFault, faultOf};
+ghost use Rattle.network.specs.Record.{sizeFault, outsideFault, terminalFault, endFault, absentFault, slotFaultOf, slotsFault, faultOf, setFault};
 ghost use Rattle.network.specs.Rules.{FaultMeans};
 
 pub fn size_fault(nodes: u8) -> u8
@@ -115,4 +117,18 @@ pub fn fault(network: Network) -> u8
         return terminals;
     }
     slots_fault(network)
+}
+
+// The refusal of a call on a record and a set of its edges: the record's first fault, then 14.
+pub fn set_fault(network: Network, set: EdgeSet) -> u8
+    ensures { λ r. ⌜ r ≡ setFault network (set .0) ⌝ }
+{
+    let refusal = fault(network);
+    if refusal != 0 {
+        return refusal;
+    }
+    if !set.is_subset(network.present) {
+        return EDGE_NOT_PRESENT;
+    }
+    0
 }

@@ -1,6 +1,7 @@
 // The network record (the paper's plan record) and its test. The rules of the test are open to the reader, which keeps them too.
 //
 //   fault            the record test
+//   set_fault        the record test, and that a set of edges is of edges present
 //   size_fault, terminal_fault, end_fault     its rules for the values of one command
 //   refusal          the paper's numbers
 //
@@ -12,6 +13,7 @@ pub mod refusal;
 
 pub use faults::end_fault;
 pub use faults::fault;
+pub use faults::set_fault;
 pub use faults::size_fault;
 pub use faults::terminal_fault;
 
