@@ -11,9 +11,10 @@
  *   present  the set of cables present; cables have numbers 0 to 63
  *   first    the first end of each cable, 0 if the cable is absent
  *   second   the second end of each cable, 0 if the cable is absent
+ *   metres   the length of each cable in metres, 0 if it is not measured or the cable is absent
  *
  * Fill in both ends of every cable present: one whose ends are left 0 is no fault but a loop at point
- * 0, and is in no cut of the list.
+ * 0, and is in no cut of the list. Metres change no useful part, no verdict and no list.
  *
  * struct cutlist_plan holds the fields together, and for each function that takes them one by one
  * there is an inline function that takes the struct: cutlist_plan_fault for cutlist_fault. A call of
@@ -27,9 +28,9 @@
  * rows are untouched then.
  *
  * No pointer may be NULL, not even beside a length of 0, and each must be aligned as its type asks,
- * on x86-64 to 8 bytes for uint64_t and size_t. A length counts elements, not bytes, and may not be
- * larger than the memory lent. No two pointers may lead to the same memory if one of them is written
- * through.
+ * on x86-64 to 8 bytes for uint64_t and size_t, to 4 for uint32_t and to 2 for uint16_t. A length
+ * counts elements, not bytes, and may not be larger than the memory lent. No two pointers may lead to
+ * the same memory if one of them is written through.
  *
  * The header is C99, or C++98, and later.
  *
@@ -37,9 +38,9 @@
  * nothing and call nothing but memcpy and memset. So they may be called from several threads at once
  * and from signal handlers, as long as no call is given memory that another one writes.
  *
- * Each call takes at most CUTLIST_STACK_BYTES of stack, cutlist_list the most and every other call
- * less than 1 KiB: rust/tests/stack.rs measures it, on halls where the list goes as deep as it can.
- * The list program makes all that it prints on its stack, and needs 896 KiB.
+ * Each call takes at most CUTLIST_STACK_BYTES of stack; cutlist_list takes the most, and every other
+ * call less than 2 KiB: rust/tests/stack.rs measures it, on halls where the list goes as deep as it
+ * can. The list program makes all that it prints on its stack, and needs 896 KiB.
  */
 #ifndef CUTLIST_H
 #define CUTLIST_H
@@ -61,10 +62,10 @@ extern "C" {
 #define CUTLIST_WIDTHS 65
 
 /* Bytes in the longest plan. A buffer of this length takes any plan. */
-#define CUTLIST_LONGEST_PLAN 262
+#define CUTLIST_LONGEST_PLAN 518
 
 /* Bytes that decide any plan: reading more cannot change the answer. */
-#define CUTLIST_DECIDING_BYTES 265
+#define CUTLIST_DECIDING_BYTES 521
 
 /* Bytes of stack that suffice for every call. */
 #define CUTLIST_STACK_BYTES 20480
@@ -85,12 +86,13 @@ enum cutlist_refusal {
     CUTLIST_EDGE_NUMBER_TOO_HIGH = 7,   /* cable number above 63 */
     CUTLIST_EDGE_NUMBER_NOT_RISING = 8, /* cable number not above the one before */
     CUTLIST_END_OUTSIDE = 9,            /* a cable end not below the point count */
+    CUTLIST_BAD_LENGTH = 28,            /* a length that is not of the cable just before it, or of 0 metres */
 
     /* By the program that calls. */
     CUTLIST_ROWS_DIFFER = 11,           /* cut rows and side rows differ in number */
     CUTLIST_TOO_MANY_CUTS = 12,         /* more minimal cuts than rows lent */
-    CUTLIST_ABSENT_EDGE_NOT_ZERO = 13,  /* an absent cable with an end not 0 */
-    CUTLIST_EDGE_NOT_PRESENT = 14,      /* a judged set holds a cable not present */
+    CUTLIST_ABSENT_EDGE_NOT_ZERO = 13,  /* an absent cable with an end or metres not 0 */
+    CUTLIST_EDGE_NOT_PRESENT = 14,      /* a given set holds a cable not present */
     CUTLIST_BUFFER_TOO_SHORT = 15       /* the plan needs more bytes than were lent */
 };
 
@@ -103,7 +105,7 @@ enum cutlist_verdict {
 };
 
 /*
- * Reads a plan: refusals 1 to 9.
+ * Reads a plan: refusals 1 to 9, and 28.
  *
  *   plan, plan_length  the bytes; none past the last is looked at
  *   nodes              out: the point count
@@ -112,8 +114,9 @@ enum cutlist_verdict {
  *   present            out: the set of cables present
  *   first              out: the first end of each cable
  *   second             out: the second end of each cable
+ *   metres             out: the metres of each cable, 0 if it has no length in the plan
  *
- * On refusal all six are zero throughout.
+ * On refusal all seven are zero throughout.
  */
 uint8_t cutlist_decode(
     const uint8_t *plan, size_t plan_length,
@@ -122,7 +125,8 @@ uint8_t cutlist_decode(
     uint8_t *sink,
     uint64_t *present,
     uint8_t first[CUTLIST_SLOTS],
-    uint8_t second[CUTLIST_SLOTS]);
+    uint8_t second[CUTLIST_SLOTS],
+    uint16_t metres[CUTLIST_SLOTS]);
 
 /* Tests a record, and gives the number of its first fault: 4, 5, 6, then slot by slot 9 or 13. */
 uint8_t cutlist_fault(
@@ -131,10 +135,12 @@ uint8_t cutlist_fault(
     uint8_t sink,
     uint64_t present,
     const uint8_t first[CUTLIST_SLOTS],
-    const uint8_t second[CUTLIST_SLOTS]);
+    const uint8_t second[CUTLIST_SLOTS],
+    const uint16_t metres[CUTLIST_SLOTS]);
 
 /*
- * Writes a record as a plan, cables rising: refusals of cutlist_fault, and 15.
+ * Writes a record as a plan, cables rising, each measured one with its length behind it: refusals of
+ * cutlist_fault, and 15.
  *
  *   plan, plan_length  out: the lent buffer; bytes past the count hold what they held
  *   count              out: how many bytes were written, 0 on refusal
@@ -146,6 +152,7 @@ uint8_t cutlist_encode(
     uint64_t present,
     const uint8_t first[CUTLIST_SLOTS],
     const uint8_t second[CUTLIST_SLOTS],
+    const uint16_t metres[CUTLIST_SLOTS],
     uint8_t *plan, size_t plan_length,
     size_t *count);
 
@@ -163,6 +170,7 @@ uint8_t cutlist_relevant(
     uint64_t present,
     const uint8_t first[CUTLIST_SLOTS],
     const uint8_t second[CUTLIST_SLOTS],
+    const uint16_t metres[CUTLIST_SLOTS],
     uint64_t *node_set,
     uint64_t *edge_set);
 
@@ -179,8 +187,27 @@ uint8_t cutlist_classify(
     uint64_t present,
     const uint8_t first[CUTLIST_SLOTS],
     const uint8_t second[CUTLIST_SLOTS],
+    const uint16_t metres[CUTLIST_SLOTS],
     uint64_t set,
     uint8_t *verdict);
+
+/*
+ * Adds up the metres of a set of cables: refusals of cutlist_fault, and 14. A cable that is not
+ * measured adds 0, and the total does not show it: the record's metres do.
+ *
+ *   set    the set of cables
+ *   total  out: their metres together, at most 4194240; 0 on refusal
+ */
+uint8_t cutlist_metres(
+    uint8_t nodes,
+    uint8_t source,
+    uint8_t sink,
+    uint64_t present,
+    const uint8_t first[CUTLIST_SLOTS],
+    const uint8_t second[CUTLIST_SLOTS],
+    const uint16_t metres[CUTLIST_SLOTS],
+    uint64_t set,
+    uint32_t *total);
 
 /*
  * Lists the minimal cuts in rising order of their numbers, each beside its near side: the useful
@@ -198,6 +225,7 @@ uint8_t cutlist_list(
     uint64_t present,
     const uint8_t first[CUTLIST_SLOTS],
     const uint8_t second[CUTLIST_SLOTS],
+    const uint16_t metres[CUTLIST_SLOTS],
     uint64_t *cuts, size_t cuts_length,
     uint64_t *sides, size_t sides_length,
     size_t *count);
@@ -223,6 +251,7 @@ struct cutlist_plan {
     uint64_t present;
     uint8_t first[CUTLIST_SLOTS];
     uint8_t second[CUTLIST_SLOTS];
+    uint16_t metres[CUTLIST_SLOTS];
 };
 
 /* The fields of a struct, as the functions above take them. */
@@ -232,7 +261,8 @@ struct cutlist_plan {
     (plan)->sink, \
     (plan)->present, \
     (plan)->first, \
-    (plan)->second
+    (plan)->second, \
+    (plan)->metres
 
 /* Reads a plan, as cutlist_decode does. On refusal every field is zero. */
 static inline uint8_t cutlist_plan_decode(
@@ -246,7 +276,8 @@ static inline uint8_t cutlist_plan_decode(
         &plan->sink,
         &plan->present,
         plan->first,
-        plan->second);
+        plan->second,
+        plan->metres);
 }
 
 /* Tests a plan, as cutlist_fault does. */
@@ -280,6 +311,15 @@ static inline uint8_t cutlist_plan_classify(
     uint8_t *verdict)
 {
     return cutlist_classify(CUTLIST_FIELDS(plan), set, verdict);
+}
+
+/* Adds up the metres of a set of cables, as cutlist_metres does. */
+static inline uint8_t cutlist_plan_metres(
+    const struct cutlist_plan *plan,
+    uint64_t set,
+    uint32_t *total)
+{
+    return cutlist_metres(CUTLIST_FIELDS(plan), set, total);
 }
 
 /* Lists the minimal cuts, as cutlist_list does. */

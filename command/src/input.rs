@@ -1,4 +1,4 @@
-//! The one rule by which inputs are read: a name that ends in .hex is text, anything else and `-`,
+//! The one rule by which plans are read: a name that ends in .hex is text, anything else and `-`,
 //! standard input, is bytes. An input is read once, whatever kind of file it is.
 
 use std::ffi::OsStr;
@@ -6,6 +6,9 @@ use std::fmt;
 use std::fs::File;
 use std::io::{self, BufRead, BufReader, Read};
 use std::os::fd::AsFd;
+
+use crate::output::{say, shown};
+use crate::program::DECIDING;
 
 /// The name of standard input.
 pub const STANDARD: &str = "-";
@@ -47,10 +50,21 @@ impl fmt::Display for Fault {
     }
 }
 
+/// The bytes that decide the plan of this name. If there is nothing to take, says why.
+pub fn plan(name: &OsStr) -> Option<Vec<u8>> {
+    match read(name, DECIDING) {
+        Ok(plan) => Some(plan),
+        Err(fault) => {
+            say(format_args!("{}: {fault}", shown(name)));
+            None
+        }
+    }
+}
+
 /// The first bytes of the input of this name, `most` of them if it has as many. Of bytes no more
 /// than these are read, so that an endless file has an answer. Text is checked to its end: a fault
 /// anywhere in it says that it is not what it was taken for.
-pub fn read(name: &OsStr, most: usize) -> Result<Vec<u8>, Fault> {
+fn read(name: &OsStr, most: usize) -> Result<Vec<u8>, Fault> {
     let file = open(name)?;
     if name.as_encoded_bytes().ends_with(TEXT) {
         return bytes_of(BufReader::new(file), most);

@@ -6,7 +6,7 @@ use std::path::Path;
 
 use crate::input;
 use crate::output::{print, say, shown};
-use crate::program::{self, Answer, DECIDING};
+use crate::program::{self, Answer};
 use crate::status::Status;
 
 /// Lists the plans of the files, each below its name if there are several, and gives the largest
@@ -26,12 +26,8 @@ pub fn run(program: &Path, files: &[OsString]) -> io::Result<Status> {
 /// Lists the plan of one file. Nothing is printed, the heading neither, unless there is an answer.
 fn list(program: &Path, file: &OsStr, heading: String) -> io::Result<Status> {
     let name = shown(file);
-    let plan = match input::read(file, DECIDING) {
-        Ok(plan) => plan,
-        Err(fault) => {
-            say(format_args!("{name}: {fault}"));
-            return Ok(Status::Unread);
-        }
+    let Some(plan) = input::plan(file) else {
+        return Ok(Status::Unread);
     };
     let printed = match program::run(program, &plan) {
         Ok(printed) => printed,

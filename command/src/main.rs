@@ -5,6 +5,7 @@
 
 mod input;
 mod list;
+mod metres;
 mod output;
 mod program;
 mod status;
@@ -15,6 +16,7 @@ use std::io;
 use std::path::PathBuf;
 use std::process::ExitCode;
 
+use cutlist::EdgeSet;
 use input::STANDARD;
 use output::{print, say};
 use status::Status;
@@ -26,7 +28,10 @@ const USAGE: &str = include_str!("../usage.txt");
 #[derive(Debug, PartialEq, Eq)]
 enum Asked {
     Help,
+    /// The lists of these files.
     List(Vec<OsString>),
+    /// The metres of these cables of a file, or of all that its plan has.
+    Metres(OsString, Option<EdgeSet>),
 }
 
 fn main() -> ExitCode {
@@ -61,27 +66,50 @@ fn run() -> io::Result<Status> {
             }
             list::run(&root.join("target/bin/list"), &files)
         }
+        Ok(Asked::Metres(file, edges)) => metres::run(&file, edges),
     }
 }
 
-/// What the arguments ask for, or what is wrong with them. An option may stand among the files, up
-/// to `--`.
+/// What the arguments ask for, or what is wrong with them. A word that says what to do stands first:
+/// anywhere else, and after `--`, it is a file's name.
 fn asked(arguments: impl Iterator<Item = OsString>) -> Result<Asked, String> {
-    let mut files: Vec<OsString> = Vec::new();
+    let mut arguments = arguments.peekable();
+    let metres = arguments.next_if(|word| word == "metres").is_some();
+    let Some(words) = words(arguments)? else {
+        return Ok(Asked::Help);
+    };
+    if !metres {
+        return match words.iter().filter(|&word| word == STANDARD).count() {
+            0 | 1 => Ok(Asked::List(words)),
+            _ => Err("standard input can be read only once".to_string()),
+        };
+    }
+    let Some((file, cables)) = words.split_first() else {
+        return Err("metres needs a FILE; a file of that name is listed as ./metres".to_string());
+    };
+    let edges = match cables {
+        [] => None,
+        _ => Some(metres::edges(cables)?),
+    };
+    Ok(Asked::Metres(file.clone(), edges))
+}
+
+/// The arguments that are no options, `None` if help is asked for. An option may stand among them, up
+/// to `--`.
+fn words(arguments: impl Iterator<Item = OsString>) -> Result<Option<Vec<OsString>>, String> {
+    let mut words = Vec::new();
     let mut options = true;
     for argument in arguments {
         let is_option = options && argument.as_encoded_bytes().starts_with(b"-");
         if is_option && argument == "--" {
             options = false;
         } else if is_option && (argument == "-h" || argument == "--help") {
-            return Ok(Asked::Help);
+            return Ok(None);
         } else if is_option && argument != STANDARD {
             return Err(format!("unknown option {}", output::shown(&argument)));
-        } else if argument == STANDARD && files.contains(&argument) {
-            return Err("standard input can be read only once".to_string());
         } else {
-            files.push(argument);
+            words.push(argument);
         }
     }
-    Ok(Asked::List(files))
+    Ok(Some(words))
 }

@@ -8,7 +8,7 @@ use std::process::{Command, Stdio};
 use cutlist::Refusal;
 
 /// How many bytes decide any plan: the list program reads no more.
-pub const DECIDING: usize = 265;
+pub const DECIDING: usize = 521;
 
 /// What the list program printed, found whole.
 pub struct Printed {
@@ -94,7 +94,7 @@ fn is_set(text: &str) -> bool {
 }
 
 /// The number that a text is, if it has no sign and no zero before it.
-fn decimal(text: &str) -> Option<usize> {
+pub fn decimal(text: &str) -> Option<usize> {
     let number: usize = text.parse().ok()?;
     (number.to_string() == text).then_some(number)
 }

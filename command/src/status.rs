@@ -12,7 +12,7 @@ pub enum Status {
     Refused = 1,
     /// A wrong use, or an input that cannot be read or is malformed.
     Unread = 2,
-    /// A list is lost on its way from the list program to whoever reads standard output.
+    /// An answer is lost on its way to whoever reads standard output.
     Lost = 3,
 }
 

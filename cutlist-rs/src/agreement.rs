@@ -213,6 +213,7 @@ fn sizes_agree() {
     let slots = size_of_the_header("CUTLIST_SLOTS");
     assert_eq!(sys::SLOTS, slots);
     assert_eq!(arrays_of_the_library("u8"), BTreeSet::from([slots]));
+    assert_eq!(arrays_of_the_library("u16"), BTreeSet::from([slots]));
 
     let widths = size_of_the_header("CUTLIST_WIDTHS");
     assert_eq!(sys::WIDTHS, widths);

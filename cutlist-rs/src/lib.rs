@@ -4,7 +4,7 @@
 //! cut is a set of cables without which the server no longer reaches the room, and a minimal cut is
 //! one of which no cable can be spared. This crate lists all minimal cuts, by a static library whose
 //! every function is proved to keep its contract. A cable may have both ends at one point; such a
-//! loop is in no minimal cut.
+//! loop is in no minimal cut. A cable may have its length in metres, which changes no list.
 //!
 //! ```
 //! use cutlist::{EdgeSet, Plan, Refusal, Verdict};
@@ -27,6 +27,12 @@
 //!
 //! // Two cuts of two cables, two of three.
 //! assert_eq!(cutlist::widths(rows.cuts())[..5], [0, 0, 2, 2, 0]);
+//!
+//! // Cable 3 is measured and cable 4 is not: of the cut of both, 12 metres are known.
+//! let plan = plan.with_length(3, 12)?;
+//! let cut = EdgeSet(0b11000);
+//! assert_eq!(plan.metres(cut)?, 12);
+//! assert_eq!(plan.unmeasured(cut), EdgeSet(0b10000));
 //!
 //! // A plan travels as bytes, and bytes outside the rules are refused.
 //! let bytes = plan.encode()?;

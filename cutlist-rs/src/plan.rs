@@ -9,12 +9,13 @@ use crate::sets::{EdgeSet, NodeSet};
 use crate::sys::{self, Record};
 
 /// Bytes in the longest plan.
-pub(crate) const LONGEST: usize = 262;
+pub(crate) const LONGEST: usize = 518;
 
 /// Rows lent at first when the number of cuts is unknown.
 const FIRST_ROWS: usize = 64;
 
-/// A plan without fault: points, one of them the server and one the room, and cables between them.
+/// A plan without fault: points, one of them the server and one the room, and cables between them,
+/// of which some or all are measured.
 #[derive(Clone, Debug, PartialEq, Eq)]
 pub struct Plan(Record);
 
@@ -61,14 +62,16 @@ impl fmt::Display for Verdict {
     }
 }
 
-/// Why a cable cannot be added to a plan.
+/// Why a cable cannot be added to a plan, or not be measured.
 #[derive(Clone, Copy, Debug, PartialEq, Eq, Hash)]
 #[non_exhaustive]
 pub enum EdgeFault {
     /// The plan has a cable of this number already.
     Taken,
+    /// The plan has no cable of this number.
+    Absent,
     /// A plan with this cable would be refused: [`Refusal::EdgeNumberTooHigh`] or
-    /// [`Refusal::EndOutside`].
+    /// [`Refusal::EndOutside`]; or one with this length: [`Refusal::BadLength`].
     Refused(Refusal),
 }
 
@@ -82,12 +85,13 @@ impl fmt::Display for EdgeFault {
     fn fmt(&self, f: &mut fmt::Formatter<'_>) -> fmt::Result {
         match self {
             EdgeFault::Taken => f.write_str("the plan has a cable of this number already"),
+            EdgeFault::Absent => f.write_str("the plan has no cable of this number"),
             EdgeFault::Refused(refusal) => refusal.fmt(f),
         }
     }
 }
 
-/// A cable was not added. The plan is given back as it was.
+/// A cable was not added, or not measured. The plan is given back as it was.
 #[derive(Clone, Debug, PartialEq, Eq)]
 pub struct EdgeError {
     plan: Plan,
@@ -95,12 +99,12 @@ pub struct EdgeError {
 }
 
 impl EdgeError {
-    /// Why the cable was not added.
+    /// Why the cable was not added, or not measured.
     pub fn fault(&self) -> EdgeFault {
         self.fault
     }
 
-    /// The plan without the cable.
+    /// The plan as it was.
     pub fn into_plan(self) -> Plan {
         self.plan
     }
@@ -145,6 +149,29 @@ impl Plan {
         Ok(Plan::tested(record)?)
     }
 
+    /// The same plan with the length of a cable that it has, in metres, 1 to 65,535. A length takes
+    /// the place of an earlier one. If there is no such cable, or the length is 0, the error has the
+    /// plan as it was ([`EdgeError::into_plan`]).
+    // The plan that an error holds is as large as the plan of a success.
+    #[allow(clippy::result_large_err)]
+    pub fn with_length(self, number: u8, metres: u16) -> Result<Plan, EdgeError> {
+        self.and_length(number, metres)
+            .map_err(|fault| EdgeError { plan: self, fault })
+    }
+
+    fn and_length(&self, number: u8, metres: u16) -> Result<Plan, EdgeFault> {
+        if !self.present().contains(number) {
+            return Err(EdgeFault::Absent);
+        }
+        // A record may hold 0 metres, for a cable that is not measured; a length has some.
+        if metres == 0 {
+            return Err(EdgeFault::Refused(Refusal::BadLength));
+        }
+        let mut record = self.0.clone();
+        record.metres[usize::from(number)] = metres;
+        Ok(Plan::tested(record)?)
+    }
+
     fn tested(record: Record) -> Result<Plan, Refusal> {
         answer(sys::fault(&record), Plan(record))
     }
@@ -155,7 +182,7 @@ impl Plan {
         answer(number, Plan(record))
     }
 
-    /// Writes the plan, cables rising, into memory for the longest plan, 262 bytes.
+    /// Writes the plan, cables rising, into memory for the longest plan, 518 bytes.
     pub fn encode(&self) -> Result<Vec<u8>, Refusal> {
         let mut plan = vec![0; LONGEST];
         let count = self.encode_into(&mut plan)?;
@@ -195,6 +222,18 @@ impl Plan {
         let slot = usize::from(edge);
         let present = self.present().contains(edge);
         present.then(|| (self.0.first[slot], self.0.second[slot]))
+    }
+
+    /// The length of a cable in metres, if it is present and measured.
+    pub fn length(&self, edge: u8) -> Option<u16> {
+        let metres = self.0.metres.get(usize::from(edge)).copied();
+        metres.filter(|&metres| metres != 0)
+    }
+
+    /// The cables of a set that have no length: those that [`Plan::metres`] counts as 0 metres.
+    pub fn unmeasured(&self, set: EdgeSet) -> EdgeSet {
+        let without = set.iter().filter(|&edge| self.length(edge).is_none());
+        EdgeSet(without.fold(0, |edges, edge| edges | 1 << edge))
     }
 
     /// The minimal cuts, if there are at most so many; else [`Refusal::TooManyCuts`]. Without a
@@ -246,6 +285,14 @@ impl Plan {
         answer(number, ())?;
         Verdict::from_number(verdict)
     }
+
+    /// The metres of a set of cables together, if all are present; else [`Refusal::EdgeNotPresent`].
+    /// A cable that is not measured adds nothing, so that the total is of all of them only where
+    /// [`Plan::unmeasured`] is empty.
+    pub fn metres(&self, set: EdgeSet) -> Result<u32, Refusal> {
+        let (number, total) = sys::metres(&self.0, set.0);
+        answer(number, total)
+    }
 }
 
 /// How many of the cuts have 0, 1 .. 64 cables.
@@ -274,6 +321,18 @@ mod tests {
 
     fn bridge() -> Plan {
         hall(4, 3, &[(0, 1), (0, 2), (1, 2), (1, 3), (2, 3)])
+    }
+
+    /// The plan with these lengths, by cable.
+    fn measured(plan: Plan, lengths: &[(u8, u16)]) -> Plan {
+        lengths.iter().fold(plan, |plan, &(number, metres)| {
+            plan.with_length(number, metres).expect("accepted")
+        })
+    }
+
+    /// The bridge with lengths for its cables but cable 2.
+    fn measured_bridge() -> Plan {
+        measured(bridge(), &[(0, 18), (1, 25), (3, 12), (4, 260)])
     }
 
     /// Server and room each joined to every one of the points between them: 2^middle minimal cuts.
@@ -351,6 +410,84 @@ mod tests {
     }
 
     #[test]
+    fn cables_are_measured_in_any_order_and_again() {
+        let plan = measured(bridge(), &[(4, 1), (0, 65_535), (4, 256)]);
+        assert_eq!((plan.length(0), plan.length(4)), (Some(65_535), Some(256)));
+        assert_eq!((plan.length(1), plan.length(5)), (None, None));
+        assert_eq!((plan.length(63), plan.length(64)), (None, None));
+        assert_eq!(plan.length(255), None);
+        assert_ne!(plan, bridge());
+        // A cable that comes later leaves the lengths as they are, and has none.
+        let plan = plan.with_edge(63, 0, 3).expect("accepted");
+        assert_eq!((plan.length(4), plan.length(63)), (Some(256), None));
+        assert_eq!(measured(plan, &[(63, 7)]).length(63), Some(7));
+    }
+
+    #[test]
+    fn a_length_that_does_not_fit_leaves_the_plan_as_it_was() {
+        let refused = |number, metres| {
+            let error = measured_bridge()
+                .with_length(number, metres)
+                .expect_err("unfit");
+            let fault = error.fault();
+            assert_eq!(error.to_string(), fault.to_string());
+            assert_eq!(error.into_plan(), measured_bridge());
+            fault
+        };
+        for number in [5, 63, 64, 255] {
+            assert_eq!(refused(number, 1), EdgeFault::Absent);
+            assert_eq!(refused(number, 0), EdgeFault::Absent);
+        }
+        for number in [2, 4] {
+            let fault = refused(number, 0);
+            assert_eq!(fault, EdgeFault::Refused(Refusal::BadLength));
+        }
+    }
+
+    #[test]
+    fn metres_are_added_up() {
+        let plan = measured_bridge();
+        for (set, total, unmeasured) in [
+            (0b00000, 0, 0b00000),
+            (0b00001, 18, 0b00000),
+            (0b00100, 0, 0b00100),
+            (0b11011, 315, 0b00000),
+            (0b11111, 315, 0b00100),
+            (0b01110, 37, 0b00100),
+        ] {
+            assert_eq!(plan.metres(EdgeSet(set)), Ok(total));
+            assert_eq!(plan.unmeasured(EdgeSet(set)), EdgeSet(unmeasured));
+        }
+        for absent in [1 << 5, 1 << 5 | 1, 1 << 63, u64::MAX] {
+            let refused = plan.metres(EdgeSet(absent));
+            assert_eq!(refused, Err(Refusal::EdgeNotPresent));
+        }
+        assert_eq!(
+            plan.unmeasured(EdgeSet(u64::MAX)),
+            EdgeSet(!0b11011),
+            "absent cables have no length either"
+        );
+        assert_eq!(bridge().metres(bridge().present()), Ok(0));
+        assert_eq!(bridge().unmeasured(EdgeSet(0b11111)), EdgeSet(0b11111));
+
+        let lengths: Vec<(u8, u16)> = (0..64).map(|number| (number, 65_535)).collect();
+        let longest = measured(hall(2, 1, &[(0, 1); 64]), &lengths);
+        assert_eq!(longest.metres(EdgeSet(u64::MAX)), Ok(4_194_240));
+        assert!(longest.unmeasured(EdgeSet(u64::MAX)).is_empty());
+    }
+
+    #[test]
+    fn lengths_change_no_other_answer() {
+        let (plan, other) = (measured_bridge(), bridge());
+        assert_eq!(plan.mincuts(4), other.mincuts(4));
+        assert_eq!(plan.mincuts(3), OUTNUMBERED);
+        assert_eq!(plan.relevant(), other.relevant());
+        for set in (0..64).map(EdgeSet) {
+            assert_eq!(plan.classify(set), other.classify(set));
+        }
+    }
+
+    #[test]
     fn a_loop_changes_neither_list_nor_useful_part() {
         for node in 0..4 {
             let looped = bridge().with_edge(5, node, node).expect("accepted");
@@ -378,6 +515,24 @@ mod tests {
     }
 
     #[test]
+    fn lengths_are_read_and_written() {
+        let plan = measured(hall(2, 1, &[(0, 1), (1, 0)]), &[(1, 260)]);
+        let mut bytes = vec![
+            0x50, 2, 0x53, 0, 1, 0x43, 0, 0, 1, 0x43, 1, 1, 0, 0x4D, 1, 1, 4, 0x45,
+        ];
+        assert_eq!(plan.encode().as_ref(), Ok(&bytes));
+        assert_eq!(Plan::decode(&bytes), Ok(plan));
+        bytes[14] = 0;
+        assert_eq!(Plan::decode(&bytes), Err(Refusal::BadLength));
+        (bytes[14], bytes[15], bytes[16]) = (1, 0, 0);
+        assert_eq!(Plan::decode(&bytes), Err(Refusal::BadLength));
+        bytes.splice(9..13, []);
+        assert_eq!(Plan::decode(&bytes), Err(Refusal::BadLength));
+        bytes.splice(5..9, []);
+        assert_eq!(Plan::decode(&bytes), Err(Refusal::UnfitCommand));
+    }
+
+    #[test]
     fn bytes_are_written() {
         assert_eq!(bridge().encode(), Ok(BRIDGE.to_vec()));
         let mut lent = [0xAA; 27];
@@ -388,7 +543,10 @@ mod tests {
         assert_eq!(lent, [0xAA; 27]);
         assert_eq!(bridge().encode_into(&mut lent), Ok(26));
         assert_eq!((&lent[..26], lent[26]), (&BRIDGE[..], 0xAA));
-        let longest = hall(2, 1, &[(0, 1); 64]).encode().expect("accepted");
+        let cables = hall(2, 1, &[(0, 1); 64]);
+        assert_eq!(cables.encode().map(|bytes| bytes.len()), Ok(262));
+        let lengths: Vec<(u8, u16)> = (0..64).map(|number| (number, 1)).collect();
+        let longest = measured(cables, &lengths).encode().expect("accepted");
         assert_eq!(longest.len(), LONGEST);
     }
 

@@ -60,9 +60,10 @@ refusals! {
     9 EndOutside "a cable end not below the point count"
     11 RowsDiffer "cut rows and side rows differ in number"
     12 TooManyCuts "more minimal cuts than rows lent"
-    13 AbsentEdgeNotZero "an absent cable with an end not 0"
-    14 EdgeNotPresent "a judged set holds a cable not present"
+    13 AbsentEdgeNotZero "an absent cable with an end or metres not 0"
+    14 EdgeNotPresent "a given set holds a cable not present"
     15 BufferTooShort "the plan needs more bytes than were lent"
+    28 BadLength "a length that is not of the cable just before it, or of 0 metres"
 }
 
 impl Refusal {

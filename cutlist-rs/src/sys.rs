@@ -18,6 +18,7 @@ pub struct Record {
     pub present: u64,
     pub first: [u8; SLOTS],
     pub second: [u8; SLOTS],
+    pub metres: [u16; SLOTS],
 }
 
 impl Record {
@@ -30,6 +31,7 @@ impl Record {
             present: 0,
             first: [0; SLOTS],
             second: [0; SLOTS],
+            metres: [0; SLOTS],
         }
     }
 }
@@ -45,6 +47,7 @@ unsafe extern "C" {
         present: *mut u64,
         first: *mut [u8; SLOTS],
         second: *mut [u8; SLOTS],
+        metres: *mut [u16; SLOTS],
     ) -> u8;
 
     fn cutlist_widths(cuts: *const u64, cuts_length: usize, table: *mut [u64; WIDTHS]);
@@ -66,6 +69,7 @@ macro_rules! on_a_record {
                         present: u64,
                         first: *const [u8; SLOTS],
                         second: *const [u8; SLOTS],
+                        metres: *const [u16; SLOTS],
                         $($more: $type,)*
                     ) -> u8;
                 )*
@@ -83,6 +87,7 @@ macro_rules! on_a_record {
                         r.present,
                         &r.first,
                         &r.second,
+                        &r.metres,
                         $($more,)*
                     )
                 }
@@ -96,6 +101,7 @@ on_a_record! {
     fn cutlist_encode(plan: *mut u8, plan_length: usize, count: *mut usize);
     fn cutlist_relevant(node_set: *mut u64, edge_set: *mut u64);
     fn cutlist_classify(set: u64, verdict: *mut u8);
+    fn cutlist_metres(set: u64, total: *mut u32);
     fn cutlist_list(
         cuts: *mut u64,
         cuts_length: usize,
@@ -119,6 +125,7 @@ pub fn decode(plan: &[u8]) -> (u8, Record) {
             &mut r.present,
             &mut r.first,
             &mut r.second,
+            &mut r.metres,
         )
     };
     (refusal, r)
@@ -152,6 +159,14 @@ pub fn classify(r: &Record, set: u64) -> (u8, u8) {
     // SAFETY: the pointer is valid for its type.
     let refusal = unsafe { cutlist_classify(r, set, &mut verdict) };
     (refusal, verdict)
+}
+
+/// Adds up the metres of a set of cables: the total.
+pub fn metres(r: &Record, set: u64) -> (u8, u32) {
+    let mut total = 0;
+    // SAFETY: the pointer is valid for its type.
+    let refusal = unsafe { cutlist_metres(r, set, &mut total) };
+    (refusal, total)
 }
 
 /// Lists the minimal cuts into lent rows: the count.

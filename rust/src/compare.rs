@@ -3,7 +3,7 @@
 use std::fmt::LowerHex;
 
 use crate::answers::{Nodes, Part, Row, Verdict, Widths};
-use crate::record::Record;
+use crate::record::{Record, SLOTS};
 use crate::reference::{self, Refusal, LONGEST_PLAN};
 use crate::sys;
 
@@ -76,16 +76,35 @@ pub fn relevant(record: &Record, part: Part) -> u8 {
     number
 }
 
-/// Judges a set; `verdict` is what it should be if nothing is refused. Gives the refusal number.
-pub fn classify(record: &Record, set: u64, verdict: Verdict) -> u8 {
-    let number = match reference::number(&reference::fault(record)) {
+/// The number with which a set is refused, 0 if it is not.
+fn set_refusal(record: &Record, set: u64) -> u8 {
+    match reference::number(&reference::fault(record)) {
         0 if set & !record.present != 0 => Refusal::EdgeNotPresent as u8,
         number => number,
-    };
+    }
+}
+
+/// Judges a set; `verdict` is what it should be if nothing is refused. Gives the refusal number.
+pub fn classify(record: &Record, set: u64, verdict: Verdict) -> u8 {
+    let number = set_refusal(record, set);
     let verdict = if number == 0 { verdict as u8 } else { 0 };
     let answer = sys::classify(record, set);
     assert_eq!(answer, (number, verdict), "set {set:#x}, record {record:?}");
     number
+}
+
+/// Adds up the metres of a set. Gives the refusal number and the total.
+pub fn metres(record: &Record, set: u64) -> (u8, u32) {
+    let number = set_refusal(record, set);
+    let mut total = 0;
+    if number == 0 {
+        for edge in (0..SLOTS).filter(|edge| set >> edge & 1 == 1) {
+            total += u32::from(record.metres[edge]);
+        }
+    }
+    let answer = sys::metres(record, set);
+    assert_eq!(answer, (number, total), "set {set:#x}, record {record:?}");
+    answer
 }
 
 /// Lists a record over what the rows held; if the record has no fault, `rows` is the whole list, or

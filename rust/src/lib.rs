@@ -13,6 +13,7 @@
 //! - `rng`: a small generator with a fixed seed
 //! - `halls`: halls with a name or a pattern
 //! - `plans`: random records, and damage to plans and records
+//! - `lengths`: the same for the metres of cables
 //! - `tally`: how often each refusal number and each verdict occurred
 //! - `fuzz`: arbitrary bytes as questions for every function
 
@@ -21,6 +22,7 @@ pub mod brute;
 pub mod compare;
 pub mod fuzz;
 pub mod halls;
+pub mod lengths;
 pub mod lent;
 pub mod ordinary;
 pub mod plans;

@@ -1,7 +1,9 @@
-//! Random records, and damage to plans and records.
+//! Random records, and damage to plans and records. Lengths are drawn apart, in `lengths`, so that a
+//! plan is otherwise the same with and without them.
 
 use crate::answers::Nodes;
 use crate::halls;
+use crate::lengths;
 use crate::record::{Record, MOST_NODES, SLOTS};
 use crate::reference::{self, LONGEST_PLAN};
 use crate::rng::Rng;
@@ -159,7 +161,10 @@ pub fn spread(rng: &mut Rng, record: &Record) -> (Record, Vec<u8>) {
 /// The plan with these names for its points, among so many, with the ends of some cables exchanged.
 fn under_names(rng: &mut Rng, record: &Record, nodes: u8, names: &[u8]) -> Record {
     let name = |node: u8| names[usize::from(node)];
-    let mut other = Record::bare(nodes, name(record.source), name(record.sink));
+    let mut other = Record {
+        metres: record.metres,
+        ..Record::bare(nodes, name(record.source), name(record.sink))
+    };
     for edge in record.edges() {
         let (first, second) = (name(record.first[edge]), name(record.second[edge]));
         other = match rng.once_in(2) {
@@ -281,11 +286,12 @@ pub enum Damage {
     LoseCommand,
     /// A 65th edge, perhaps cut short.
     OneEdgeTooMany,
-    /// An edge number that is not above the one before.
+    /// An edge number that is not above the one before; or a length of an edge below its own.
     EdgeOutOfOrder,
     /// An operand at or beyond a limit.
     ValueOutOfRange,
-    /// Server and room at one point; or both ends of a cable, which is no fault.
+    /// Server and room at one point; or both ends of a cable, or both bytes of a length, which is no
+    /// fault unless they are 0.
     EqualEnds,
 }
 
@@ -307,15 +313,30 @@ impl Damage {
 
     /// A random plan with this damage.
     pub fn plan(self, rng: &mut Rng) -> Vec<u8> {
-        let record = match self {
+        let record = self.record(rng);
+        self.done_to(rng, bytes(&record))
+    }
+
+    /// The same with lengths.
+    pub fn measured_plan(self, rng: &mut Rng) -> Vec<u8> {
+        let record = self.record(rng);
+        let measured = lengths::measured(rng, &record);
+        self.done_to(rng, bytes(&measured))
+    }
+
+    /// A random record to whose plan this damage can be done.
+    fn record(self, rng: &mut Rng) -> Record {
+        match self {
             Damage::OneEdgeTooMany => record_with(rng, u64::MAX),
             Damage::EdgeOutOfOrder => {
                 let present = rng.draw() & rng.draw() | 0b11 << rng.below(SLOTS - 1);
                 record_with(rng, present)
             }
             _ => record(rng),
-        };
-        let mut plan = bytes(&record);
+        }
+    }
+
+    fn done_to(self, rng: &mut Rng, mut plan: Vec<u8>) -> Vec<u8> {
         let length = plan.len();
         match self {
             Damage::Cut => plan.truncate(rng.below(length)),
@@ -370,7 +391,7 @@ impl Damage {
                 }
             }
             Damage::EdgeOutOfOrder => {
-                // The number of an edge that is not the first.
+                // The number of an edge that is not the first, or of a length.
                 let at = 5 + 4 * (1 + rng.below((length - 6) / 4 - 1));
                 let before = plan[at - 3];
                 plan[at + 1] = before.saturating_sub(rng.below(3) as u8);
@@ -383,7 +404,7 @@ impl Damage {
                 plan[start + operand] = limit(rng);
             }
             Damage::EqualEnds => {
-                // The last operand of 53 or of an edge.
+                // The last operand of 53, of an edge or of a length.
                 let at = 4 + 4 * rng.below((length - 6) / 4 + 1);
                 plan[at] = plan[at - 1];
             }
@@ -407,7 +428,7 @@ pub fn of_few_values(rng: &mut Rng) -> Vec<u8> {
     plan
 }
 
-/// A byte, often one with a meaning.
+/// A byte, often one with a meaning in a plan without lengths.
 pub fn any_byte(rng: &mut Rng) -> u8 {
     match rng.below(3) {
         0 => rng.pick(&[0x43, 0x45, 0x50, 0x53]),
@@ -445,9 +466,11 @@ pub fn faulty() -> Vec<(u8, Record)> {
     let good = Record::bare(4, 0, 3)
         .with(1, 0, 1)
         .with(2, 0, 2)
+        .with_metres(2, 300)
         .with(30, 1, 2)
         .with(31, 1, 3)
-        .with(62, 2, 3);
+        .with(62, 2, 3)
+        .with_metres(62, 9);
     let mut found = Vec::new();
     let mut add = |number: u8, change: &dyn Fn(&mut Record)| {
         let mut record = good.clone();
@@ -473,25 +496,29 @@ pub fn faulty() -> Vec<(u8, Record)> {
         add(6, &|r| (r.source, r.sink, r.second[0]) = (node, node, 1));
     }
     for slot in 0..SLOTS {
-        let set = |r: &mut Record, present: u64, first: u8, second: u8| {
+        let set = |r: &mut Record, present: u64, first: u8, second: u8, metres: u16| {
             r.present = r.present & !(1 << slot) | present << slot;
-            (r.first[slot], r.second[slot]) = (first, second);
+            (r.first[slot], r.second[slot], r.metres[slot]) = (first, second, metres);
         };
-        for (number, present, first, second) in [
-            (9, 1, 4, 0),
-            (9, 1, 0, 4),
-            (9, 1, 255, 255),
-            (9, 1, 4, 4),
-            (13, 0, 1, 0),
-            (13, 0, 0, 1),
-            (13, 0, 3, 3),
-            (13, 0, 255, 255),
+        for (number, present, first, second, metres) in [
+            (9, 1, 4, 0, 0),
+            (9, 1, 0, 4, 1),
+            (9, 1, 255, 255, 0),
+            (9, 1, 4, 4, 65_535),
+            (13, 0, 1, 0, 0),
+            (13, 0, 0, 1, 0),
+            (13, 0, 3, 3, 1),
+            (13, 0, 255, 255, 0),
+            // By metres alone, in either byte of them.
+            (13, 0, 0, 0, 1),
+            (13, 0, 0, 0, 256),
+            (13, 0, 0, 0, 65_535),
         ] {
-            add(number, &|r| set(r, present, first, second));
+            add(number, &|r| set(r, present, first, second, metres));
             // The lower slot decides.
             for later in slot + 1..SLOTS {
                 add(number, &|r| {
-                    set(r, present, first, second);
+                    set(r, present, first, second, metres);
                     (r.present, r.first[later]) = match number {
                         9 => (r.present & !(1 << later), 1),
                         _ => (r.present | 1 << later, 4),

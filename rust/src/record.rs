@@ -9,7 +9,7 @@ pub const MOST_NODES: u8 = 64;
 pub const SLOTS: usize = 64;
 
 /// A plan record as plain fields; anything may stand in them. They lie in this order, so that no
-/// unused bytes lie beside the ends, which are lent to calls where they stand.
+/// unused bytes lie beside the ends and the metres, which are lent to calls where they stand.
 #[derive(Clone, PartialEq, Eq)]
 #[repr(C)]
 pub struct Record {
@@ -25,6 +25,8 @@ pub struct Record {
     pub first: [u8; SLOTS],
     /// The second end of each cable.
     pub second: [u8; SLOTS],
+    /// The metres of each cable, 0 if it is not measured.
+    pub metres: [u16; SLOTS],
 }
 
 impl Record {
@@ -46,12 +48,24 @@ impl Record {
         self
     }
 
+    /// The same record with so many metres for an edge.
+    pub fn with_metres(mut self, edge: usize, metres: u16) -> Record {
+        self.metres[edge] = metres;
+        self
+    }
+
     /// The same record without these edges.
     pub fn without(mut self, edges: u64) -> Record {
         self.present &= !edges;
         for edge in (0..SLOTS).filter(|edge| edges >> edge & 1 == 1) {
-            (self.first[edge], self.second[edge]) = (0, 0);
+            (self.first[edge], self.second[edge], self.metres[edge]) = (0, 0, 0);
         }
+        self
+    }
+
+    /// The same record without any metres.
+    pub fn unmeasured(mut self) -> Record {
+        self.metres = [0; SLOTS];
         self
     }
 
@@ -71,6 +85,13 @@ impl Record {
             .filter(|&edge| self.first[edge] == self.second[edge])
             .fold(0, |set, edge| set | 1 << edge)
     }
+
+    /// The edges with metres, present or not.
+    pub fn measured(&self) -> u64 {
+        (0..SLOTS)
+            .filter(|&edge| self.metres[edge] != 0)
+            .fold(0, |set, edge| set | 1 << edge)
+    }
 }
 
 /// The all-zero record.
@@ -83,6 +104,7 @@ impl Default for Record {
             present: 0,
             first: [0; SLOTS],
             second: [0; SLOTS],
+            metres: [0; SLOTS],
         }
     }
 }
@@ -96,9 +118,13 @@ impl fmt::Debug for Record {
             self.nodes, self.source, self.sink, self.present
         )?;
         for edge in 0..SLOTS {
-            let ends = (self.first[edge], self.second[edge]);
-            if self.holds(edge) || ends != (0, 0) {
-                write!(f, ", {edge}: {}-{}", ends.0, ends.1)?;
+            let (first, second) = (self.first[edge], self.second[edge]);
+            let metres = self.metres[edge];
+            if self.holds(edge) || (first, second, metres) != (0, 0, 0) {
+                write!(f, ", {edge}: {first}-{second}")?;
+            }
+            if metres != 0 {
+                write!(f, " of {metres} m")?;
             }
         }
         Ok(())

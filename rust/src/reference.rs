@@ -3,11 +3,11 @@
 use crate::record::{Record, MOST_NODES, SLOTS};
 use Refusal::*;
 
-/// The longest plan: 50, 53, 64 cables and 45.
-pub const LONGEST_PLAN: usize = 262;
+/// The longest plan: 50, 53, 64 cables with their lengths, and 45.
+pub const LONGEST_PLAN: usize = 518;
 
 /// So many bytes decide any plan.
-pub const DECIDING: usize = 265;
+pub const DECIDING: usize = 521;
 
 /// The refusals, by the library's names and the paper's numbers.
 #[derive(Clone, Copy, Debug, PartialEq, Eq)]
@@ -26,10 +26,11 @@ pub enum Refusal {
     AbsentEdgeNotZero = 13,
     EdgeNotPresent = 14,
     BufferTooShort = 15,
+    BadLength = 28,
 }
 
 /// The numbers of the reader's refusals.
-pub const READING: &[u8] = &[1, 2, 3, 4, 5, 6, 7, 8, 9];
+pub const READING: &[u8] = &[1, 2, 3, 4, 5, 6, 7, 8, 9, 28];
 
 /// The numbers of a record's faults.
 pub const FAULTS: &[u8] = &[4, 5, 6, 9, 13];
@@ -66,6 +67,13 @@ pub fn decode(plan: &[u8]) -> Result<Record, Refusal> {
                 refuse_unless(first < nodes && second < nodes, EndOutside)?;
                 record = record.with(edge.into(), first, second);
                 lowest_fit = edge + 1;
+                // Only here, straight behind a cable, is a length fit.
+                if cursor.rest.first() == Some(&0x4D) {
+                    let [_, number, high, low] = cursor.operands()?;
+                    let metres = u16::from_be_bytes([high, low]);
+                    refuse_unless(number == edge && metres != 0, BadLength)?;
+                    record = record.with_metres(edge.into(), metres);
+                }
             }
             0x45 => break,
             _ => return Err(UnfitCommand),
@@ -86,7 +94,8 @@ pub fn fault(record: &Record) -> Result<(), Refusal> {
         if record.holds(edge) {
             refuse_unless(first.max(second) < nodes, EndOutside)?;
         } else {
-            refuse_unless(first == 0 && second == 0, AbsentEdgeNotZero)?;
+            let zero = first == 0 && second == 0 && record.metres[edge] == 0;
+            refuse_unless(zero, AbsentEdgeNotZero)?;
         }
     }
     Ok(())
@@ -98,6 +107,10 @@ pub fn encode(record: &Record, room: usize) -> Result<Vec<u8>, Refusal> {
     let mut plan = vec![0x50, record.nodes, 0x53, record.source, record.sink];
     for edge in record.edges() {
         plan.extend([0x43, edge as u8, record.first[edge], record.second[edge]]);
+        if record.metres[edge] != 0 {
+            let [high, low] = record.metres[edge].to_be_bytes();
+            plan.extend([0x4D, edge as u8, high, low]);
+        }
     }
     plan.push(0x45);
     refuse_unless(plan.len() <= room, BufferTooShort)?;

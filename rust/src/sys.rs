@@ -19,6 +19,7 @@ pub mod capi {
             present: *mut u64,
             first: *mut [u8; SLOTS],
             second: *mut [u8; SLOTS],
+            metres: *mut [u16; SLOTS],
         ) -> u8;
 
         pub fn cutlist_widths(cuts: *const u64, length: usize, table: *mut [u64; 65]);
@@ -28,7 +29,7 @@ pub mod capi {
     /// begins with the record's place.
     macro_rules! on_a_record {
         ($(fn $name:ident($($more:ident: $type:ty),*);)*) => {
-            mod on_fields {
+            pub mod on_fields {
                 use super::{Nodes, SLOTS};
 
                 unsafe extern "C" {
@@ -40,6 +41,7 @@ pub mod capi {
                             present: u64,
                             first: *const [u8; SLOTS],
                             second: *const [u8; SLOTS],
+                            metres: *const [u16; SLOTS],
                             $($more: $type,)*
                         ) -> u8;
                     )*
@@ -59,6 +61,7 @@ pub mod capi {
                         (*r).present,
                         &raw const (*r).first,
                         &raw const (*r).second,
+                        &raw const (*r).metres,
                         $($more,)*
                     )
                 }
@@ -71,6 +74,7 @@ pub mod capi {
         fn cutlist_encode(plan: *mut u8, length: usize, count: *mut usize);
         fn cutlist_relevant(node_set: *mut Nodes, edge_set: *mut u64);
         fn cutlist_classify(set: u64, verdict: *mut u8);
+        fn cutlist_metres(set: u64, total: *mut u32);
         fn cutlist_list(
             cuts: *mut u64,
             cut_rows: usize,
@@ -106,6 +110,7 @@ pub fn decode_before(plan: &[u8], beyond: &[u8]) -> (u8, Record) {
     let mut present = Guarded::new(u64::from_ne_bytes([STALE; 8]));
     let mut first = Guarded::new([STALE; SLOTS]);
     let mut second = Guarded::new([STALE; SLOTS]);
+    let mut metres = Guarded::new([u16::from_ne_bytes([STALE; 2]); SLOTS]);
 
     // SAFETY: each pointer is valid for its type and length, and no two overlap.
     let refusal = unsafe {
@@ -118,6 +123,7 @@ pub fn decode_before(plan: &[u8], beyond: &[u8]) -> (u8, Record) {
             present.place(),
             first.place(),
             second.place(),
+            metres.place(),
         )
     };
 
@@ -133,6 +139,7 @@ pub fn decode_before(plan: &[u8], beyond: &[u8]) -> (u8, Record) {
         present: present.take(),
         first: first.take(),
         second: second.take(),
+        metres: metres.take(),
     };
     (refusal, record)
 }
@@ -150,6 +157,7 @@ pub fn decode_bare(plan: &[u8], read: &mut Record) -> u8 {
             &mut read.present,
             &mut read.first,
             &mut read.second,
+            &mut read.metres,
         )
     }
 }
@@ -209,6 +217,18 @@ pub fn classify(record: &Record, set: u64) -> (u8, u8) {
     });
 
     (refusal, verdict.take())
+}
+
+/// Adds up the metres of a set of cables: the refusal number and the total.
+pub fn metres(record: &Record, set: u64) -> (u8, u32) {
+    let mut total = Guarded::new(u32::from_ne_bytes([STALE; 4]));
+
+    // SAFETY: each pointer is valid for its type, and no two overlap.
+    let refusal = on_a_copy(record, |r| unsafe {
+        capi::cutlist_metres(r, set, total.place())
+    });
+
+    (refusal, total.take())
 }
 
 /// Lists the minimal cuts into lent rows: the refusal number and the count.

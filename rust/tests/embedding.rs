@@ -8,7 +8,9 @@ use std::path::{Path, PathBuf};
 use std::process::{Command, Output, Stdio};
 use std::sync::OnceLock;
 
-use cutlist_tests::{halls, reference};
+use cutlist_tests::halls;
+use cutlist_tests::record::{Record, SLOTS};
+use cutlist_tests::reference::{self, LONGEST_PLAN};
 
 const BRIDGE_PRINTED: &str = "cuts 4\n0 1 | 0\n1 2 3 | 0 1\n0 2 4 | 0 2\n3 4 | 0 1 2\n";
 
@@ -115,7 +117,7 @@ fn the_library_has_no_memory_of_its_own_and_calls_only_to_copy_and_fill() {
             _ => panic!("{line}"),
         }
     }
-    assert!(functions >= 7, "{text}");
+    assert!(functions >= 8, "{text}");
 }
 
 /// Each function that takes or gives a record has a companion that does so with a struct.
@@ -136,7 +138,7 @@ fn the_header_declares_every_function_of_the_library() {
             on_records += 1;
         }
     }
-    assert!(functions >= 7 && on_records >= 6);
+    assert!(functions >= 8 && on_records >= 7);
 }
 
 #[test]
@@ -163,21 +165,33 @@ fn the_bridge_is_printed_whole() {
     );
 }
 
+/// Two points joined by all 64 cables, each with its length: the longest plan.
+fn longest() -> Vec<u8> {
+    let hall = Record {
+        metres: [300; SLOTS],
+        ..halls::two_points(64)
+    };
+    let plan = reference::encode(&hall, LONGEST_PLAN).expect("accepted");
+    assert_eq!(plan.len(), LONGEST_PLAN);
+    plan
+}
+
 #[test]
 fn a_file_is_listed() {
-    let bridge = reference::encode(&halls::bridge(), 265).expect("accepted");
+    let bridge = reference::encode(&halls::bridge(), LONGEST_PLAN).expect("accepted");
     assert_eq!(print("bridge", &bridge), (BRIDGE_PRINTED.to_string(), 0));
-    let loops = reference::encode(&halls::bridge_with_loops(), 265).expect("accepted");
+    let loops = reference::encode(&halls::bridge_with_loops(), LONGEST_PLAN).expect("accepted");
     assert_eq!(print("loops", &loops), (BRIDGE_PRINTED.to_string(), 0));
     let no_route = [0x50, 5, 0x53, 4, 1, 0x45];
     assert_eq!(
         print("no-route", &no_route),
         ("cuts 1\n- | 4\n".to_string(), 0)
     );
-    let longest = reference::encode(&halls::two_points(64), 265).expect("accepted");
-    assert_eq!(longest.len(), reference::LONGEST_PLAN);
-    let (printed, status) = print("longest", &longest);
+    // Lengths change nothing.
+    let cables = reference::encode(&halls::two_points(64), LONGEST_PLAN).expect("accepted");
+    let (printed, status) = print("cables", &cables);
     assert!(printed.starts_with("cuts 1\n0 1 2 ") && status == 0);
+    assert_eq!(print("longest", &longest()), (printed, 0));
 }
 
 #[test]
@@ -186,17 +200,19 @@ fn refused_plans_print_their_number_and_are_no_success() {
     assert_eq!(print("empty", &[]), refused(1));
     assert_eq!(print("unfit", &[0x52]), refused(2));
     assert_eq!(print("one-point", &[0x50, 1]), refused(4));
-    let hubs = reference::encode(&halls::two_hubs(12), 265).expect("accepted");
+    let hubs = reference::encode(&halls::two_hubs(12), LONGEST_PLAN).expect("accepted");
     assert_eq!(print("hubs", &hubs), refused(12));
 
+    let no_metres = [0x50, 2, 0x53, 0, 1, 0x43, 0, 0, 1, 0x4D, 0, 0, 0, 0x45];
+    assert_eq!(print("no-metres", &no_metres), refused(28));
+
     // Files that are longer than any plan are decided by their first bytes.
-    let longest = reference::encode(&halls::two_points(64), 265).expect("accepted");
-    let mut longer = longest.clone();
+    let mut longer = longest();
     longer.push(0x45);
     assert_eq!(print("longer", &longer), refused(3));
     longer.resize(100_000, 0);
     assert_eq!(print("much-longer", &longer), refused(3));
-    let mut cables = longest;
+    let mut cables = longest();
     cables.pop();
     cables.extend([0x43, 64, 0, 1]);
     assert_eq!(cables.len(), reference::DECIDING);
@@ -216,7 +232,7 @@ fn what_cannot_be_read_is_no_plan() {
 #[test]
 fn output_that_is_lost_is_no_success() {
     let full = || Stdio::from(fs::File::create("/dev/full").expect("a device that is full"));
-    let hubs = reference::encode(&halls::two_hubs(11), 265).expect("accepted");
+    let hubs = reference::encode(&halls::two_hubs(11), LONGEST_PLAN).expect("accepted");
     for plan in [file("many", &hubs), file("unfit-lost", &[0x52])] {
         let output = Command::new(example())
             .arg(&plan)

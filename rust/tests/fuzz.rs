@@ -14,11 +14,12 @@ use cutlist_tests::fuzz::search::{panic_of, search};
 use cutlist_tests::fuzz::shrinking::shrink;
 use cutlist_tests::fuzz::{making, questions};
 use cutlist_tests::halls;
+use cutlist_tests::lengths;
 use cutlist_tests::plans;
-use cutlist_tests::record::MOST_NODES;
+use cutlist_tests::record::{Record, MOST_NODES};
 use cutlist_tests::reference::DECIDING;
 use cutlist_tests::rng::Rng;
-use cutlist_tests::{brute, reference};
+use cutlist_tests::{brute, reference, sys};
 
 fn cases(seed: u64, count: u64) -> impl Iterator<Item = (u64, Vec<u8>)> {
     (0..count).map(move |number| (number, making::bytes(seed, number)))
@@ -88,6 +89,28 @@ fn a_wrong_list_is_found_and_shrunk() {
     }
 }
 
+/// A wrong claim about totals: that all fit in one byte.
+fn ask_with_a_wrong_total(bytes: &[u8], counts: &mut Counts) {
+    questions::ask(bytes, counts);
+    let record = Case::of(bytes).record;
+    let (refusal, total) = sys::metres(&record, record.present);
+    assert!(refusal != 0 || total < 256, "a total is wrong");
+}
+
+#[test]
+fn a_wrong_total_is_found_and_shrunk() {
+    let found = search(cases(91, 1_000), ask_with_a_wrong_total).expect_err("a total of 256");
+    assert_eq!(found.message, "a total is wrong");
+    let wrong =
+        |bytes: &[u8]| panic_of(|| ask_with_a_wrong_total(bytes, &mut Counts::default())).is_some();
+    let shrunk = shrink(&found.bytes, 10_000, wrong);
+    assert!(wrong(&shrunk));
+    // Nothing is left but two points and one cable of 256 metres.
+    let record = Case::of(&shrunk).record;
+    assert_eq!((record.nodes, record.present.count_ones()), (2, 1));
+    assert_eq!(record.metres.into_iter().map(u32::from).sum::<u32>(), 256);
+}
+
 #[test]
 fn shrinking_ends_after_so_many_tries() {
     let tries = Cell::new(0);
@@ -135,6 +158,7 @@ fn every_byte_string_is_a_case() {
     assert!(counts.decode.total() >= counts.cases);
     assert!(counts.relevant.total() >= counts.cases);
     assert!(counts.classify.total() >= counts.cases);
+    assert!(counts.metres.total() >= counts.cases);
     assert!(counts.list.total() >= counts.cases);
     assert!(counts.widths >= counts.cases);
 }
@@ -162,6 +186,42 @@ fn the_digest_is_fixed_by_the_cases() {
         fewer.remove(left_out);
         assert_ne!(digest(fewer), whole, "case {left_out}");
     }
+}
+
+/// Lengths come to a byte string that is the same without them, in which there are none.
+#[test]
+fn lengths_are_drawn_apart() {
+    let (mut same, mut measured, mut without) = (0, 0, 0);
+    for (number, bytes) in cases(92, 10_000) {
+        let unmeasured = making::unmeasured(92, number);
+        assert_eq!(making::unmeasured(92, number), unmeasured);
+        same += u32::from(bytes == unmeasured);
+        measured += u32::from(Case::of(&bytes).record.measured() != 0);
+        if !unmeasured.contains(&0x4D) {
+            let case = Case::of(&unmeasured);
+            let read = reference::decode(case.plan).unwrap_or_default();
+            assert_eq!((read.measured(), case.record.measured()), (0, 0));
+            let number = reference::number(&reference::decode(case.plan));
+            assert_ne!(number, 28, "{unmeasured:02X?}");
+            without += 1;
+        }
+    }
+    assert!(same > 2_000 && measured > 3_000, "{same} {measured}");
+    assert!(without > 8_000, "{without}");
+}
+
+/// The digest is of the totals too, and of every length that is read.
+#[test]
+fn the_digest_sees_lengths() {
+    let bridge = halls::bridge().with_metres(4, 300);
+    let digest_of = |hall: &Record| digest([with_head(FITTED, &plans::bytes(hall))]);
+    let mut numbers = vec![digest_of(&halls::bridge()), digest_of(&bridge)];
+    for (edge, metres) in [(4, 301), (4, 44), (3, 300)] {
+        numbers.push(digest_of(&bridge.clone().with_metres(edge, metres)));
+    }
+    numbers.sort_unstable();
+    numbers.dedup();
+    assert_eq!(numbers.len(), 5);
 }
 
 /// A loop is seen in the record alone, and in the plan alone.
@@ -200,7 +260,8 @@ fn cases_of_every_kind_are_made() {
     for (_, bytes) in cases(87, 10_000) {
         let case = Case::of(&bytes);
         let record = &case.record;
-        let accepted = reference::decode(case.plan).is_ok();
+        let refusal = reference::number(&reference::decode(case.plan));
+        let accepted = refusal == 0;
         let fit = reference::fault(record).is_ok();
         for (kind, met) in [
             ("no bytes", case.plan.is_empty()),
@@ -220,6 +281,17 @@ fn cases_of_every_kind_are_made() {
             ),
             ("all cables", fit && record.present == u64::MAX),
             ("a loop", fit && record.loops() != 0),
+            ("a measured cable", fit && record.measured() != 0),
+            ("all cables measured", fit && record.measured() == u64::MAX),
+            (
+                "a measured plan",
+                accepted && !lengths::places(case.plan).is_empty(),
+            ),
+            ("a length of another cable, or of 0 metres", refusal == 28),
+            (
+                "metres of absent cables alone",
+                !fit && reference::fault(&record.clone().unmeasured()).is_ok(),
+            ),
             ("a set of present cables", case.set & !record.present == 0),
             ("exactly the rows needed", case.rows == Size::Needed(0)),
             ("one row less", case.rows == Size::Needed(-1)),
@@ -248,6 +320,13 @@ fn settings_mean_what_they_say() {
     assert_eq!((case.buffer, case.set), (Size::Needed(0), 0));
     let fields = case::fields(&halls::bridge());
     assert_eq!(Case::of(&with_head(RAW, &fields)).record, halls::bridge());
+    // Lengths: of a plan's cables, and of any slots.
+    let measured = halls::bridge().with_metres(1, 258);
+    let bytes = with_head(FITTED, &plans::bytes(&measured));
+    assert_eq!(Case::of(&bytes).record, measured);
+    let lengths = [0x4D, 1, 1, 2, 0x4D, 63, 0, 7, 0x4E, 3, 3, 3];
+    let bytes = with_head(RAW, &[&fields[..], &lengths].concat());
+    assert_eq!(Case::of(&bytes).record, measured.with_metres(63, 7));
 
     let mut bytes = with_head(FITTED, &bridge);
     // The last 3 bytes lie behind the plan; the record is still that of all bytes.
@@ -279,16 +358,18 @@ fn records_out_of_bytes() {
                 let length = rng.below(400);
                 rng.bytes(length)
             }
-            _ => plans::Damage::ALL[round / 2 % 12].plan(&mut rng),
+            _ => plans::Damage::ALL[round / 2 % 12].measured_plan(&mut rng),
         };
         let fitted = case::fitted(&body);
         assert_eq!(reference::fault(&fitted), Ok(()), "{body:02X?}");
         let record = plans::record(&mut rng);
+        let mut record = lengths::measured(&mut rng, &record);
         assert_eq!(case::fitted(&plans::bytes(&record)), record);
 
         let fields: [u8; FIELDS] = std::array::from_fn(|_| rng.byte());
         assert_eq!(case::fields(&case::record(&fields)), fields);
-        assert_eq!(case::record(&case::fields(&record)), record);
+        lengths::corrupt(&mut rng, &mut record);
+        assert_eq!(case::raw(&case::raw_bytes(&record)), record);
     }
 }
 
@@ -329,6 +410,18 @@ fn the_command() {
     let without = digest(without.filter(|bytes| !Case::of(bytes).has_loop()));
     assert_eq!((code, text), (Some(0), format!("{without:016x}\n")));
     assert_ne!(without, number);
+    let (code, text) = run(&[
+        "--digest",
+        "--without-lengths",
+        "--seed",
+        "88",
+        "--cases",
+        "7",
+    ]);
+    let without = (0..7).map(|case| making::unmeasured(88, case));
+    let without = digest(without.filter(|bytes| !bytes.contains(&0x4D)));
+    assert_eq!((code, text), (Some(0), format!("{without:016x}\n")));
+    assert_ne!(without, number);
 
     let file = Path::new(env!("CARGO_TARGET_TMPDIR")).join("fuzz-replay");
     fs::write(&file, making::bytes(88, 7)).expect("a file");
@@ -340,6 +433,7 @@ fn the_command() {
         &["--replay", "/no/such/file"][..],
         &["--cases"],
         &["--without-loops"],
+        &["--without-lengths"],
         &["-x"],
     ] {
         assert_eq!(run(wrong), (Some(2), String::new()));

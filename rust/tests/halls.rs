@@ -154,6 +154,28 @@ fn the_other_halls_are_read_and_written_back() {
             "50 02 53 01 00 43 3F 01 00 45",
             Record::bare(2, 1, 0).with(63, 1, 0),
         ),
+        // The bar cable measured but for its cable 1, high byte first.
+        (
+            "50 04 53 00 03 43 00 00 01 4D 00 00 12 43 01 00 02 43 02 01 02 4D 02 01 04 43 03 01 03 \
+             4D 03 FF FF 45",
+            Record::bare(4, 0, 3)
+                .with(0, 0, 1)
+                .with_metres(0, 18)
+                .with(1, 0, 2)
+                .with(2, 1, 2)
+                .with_metres(2, 260)
+                .with(3, 1, 3)
+                .with_metres(3, 65_535),
+        ),
+        // Loops have lengths too.
+        (
+            "50 02 53 00 01 43 07 01 01 4D 07 00 01 43 3F 00 00 4D 3F 01 00 45",
+            Record::bare(2, 0, 1)
+                .with(7, 1, 1)
+                .with_metres(7, 1)
+                .with(63, 0, 0)
+                .with_metres(63, 256),
+        ),
     ];
     for (shown, record) in &halls {
         assert_plan(&hex(shown), record);
@@ -189,12 +211,21 @@ fn operands_come_before_values() {
         (1, "50 02 53 00 01 43 FF"),
         (1, "50 02 53 00 01 43 FF FF"),
         (7, "50 02 53 00 01 43 FF FF FF"),
+        (1, "50 02 53 00 01 43 00 00 01 4D"),
+        (1, "50 02 53 00 01 43 00 00 01 4D FF"),
+        (1, "50 02 53 00 01 43 00 00 01 4D FF 00"),
+        (28, "50 02 53 00 01 43 00 00 01 4D FF 00 00"),
+        (1, "50 02 53 00 01 43 00 00 01 4D 00 00 01"),
         // Command bytes as operands are only values.
         (4, "50 45"),
         (4, "50 50"),
         (5, "50 40 53 45 00"),
         (7, "50 02 53 00 01 43 45 00 01"),
         (9, "50 40 53 00 01 43 00 45 00"),
+        (4, "50 4D"),
+        (5, "50 40 53 4D 00"),
+        (7, "50 02 53 00 01 43 4D 00 01"),
+        (9, "50 40 53 00 01 43 00 00 4D"),
     ]);
 }
 
@@ -220,6 +251,16 @@ fn a_byte_unfit_for_its_place_is_2() {
         // Unfit bytes of commands that come whole are 2 and no fault of their operands.
         (2, "50 02 50 01"),
         (2, "50 02 53 00 01 53 00 00"),
+        // A length that is not straight after a cable, whatever its operands.
+        (2, "4D"),
+        (2, "4D 00 00 01"),
+        (2, "50 02 4D"),
+        (2, "50 02 4D 00 00 01"),
+        (2, "50 02 53 00 01 4D"),
+        (2, "50 02 53 00 01 4D 00 00 00"),
+        (2, "50 02 53 00 01 43 00 00 01 4D 00 00 01 4D"),
+        (2, "50 02 53 00 01 43 00 00 01 4D 00 00 01 4D 00 00 01 45"),
+        (2, "50 02 53 00 01 43 00 00 01 4D 00 00 01 4D 07 00 00 45"),
     ]);
 }
 
@@ -256,6 +297,17 @@ fn values_are_tested_in_their_order() {
         (8, "50 02 53 00 01 43 05 01 01 43 05 01 01 45"),
         (9, "50 02 53 00 01 43 00 00 02 44"),
         (5, "50 02 53 02 00 00"),
+        // 28, and never 7 or 8, for the number of a length; and for no metres.
+        (28, "50 02 53 00 01 43 05 00 01 4D 40 00 01 45"),
+        (28, "50 02 53 00 01 43 05 00 01 4D FF 00 01 45"),
+        (28, "50 02 53 00 01 43 05 00 01 4D 04 00 01 45"),
+        (28, "50 02 53 00 01 43 05 00 01 4D 06 00 01 45"),
+        (28, "50 02 53 00 01 43 05 00 01 4D 05 00 00 45"),
+        (28, "50 02 53 00 01 43 05 00 01 43 06 00 01 4D 05 00 01 45"),
+        // After a length the next cable is tested as ever.
+        (8, "50 02 53 00 01 43 05 00 01 4D 05 00 01 43 05 00 01 45"),
+        (7, "50 02 53 00 01 43 05 00 01 4D 05 00 01 43 40 00 01 45"),
+        (9, "50 02 53 00 01 43 05 00 01 4D 05 00 01 43 06 00 02 45"),
     ]);
 }
 
@@ -282,34 +334,44 @@ fn any_byte_after_45_is_3() {
     }
 }
 
-/// A plan with all 64 cables, without its 45.
+/// A plan with all 64 cables and their lengths, without its 45.
 fn full_without_end() -> Vec<u8> {
     let mut plan = hex("50 40 53 3F 00");
     for edge in 0..64 {
         plan.extend([0x43, edge, edge, (edge + 1) % 64]);
+        plan.extend([0x4D, edge, 4 * edge, 255 - edge]);
     }
     plan
 }
 
 #[test]
-fn the_longest_plan_has_262_bytes() {
+fn the_longest_plan_has_518_bytes() {
     let mut plan = full_without_end();
     assert_eq!(sys::decode(&plan), (1, Record::default()));
     plan.push(0x45);
     assert_eq!(plan.len(), LONGEST_PLAN);
-    assert_eq!(plan.len(), 262);
+    assert_eq!(plan.len(), 518);
 
     let (refusal, record) = sys::decode(&plan);
     assert_eq!(refusal, 0);
-    assert_eq!(record.present, u64::MAX);
+    assert_eq!((record.present, record.measured()), (u64::MAX, u64::MAX));
+    assert_eq!(record.metres[0], 255);
+    assert_eq!(record.metres[63], 252 * 256 + 192);
     assert_plan(&plan, &record);
 
-    let mut memory = [0xAA; 261];
+    let mut memory = [0xAA; 517];
     assert_eq!(sys::encode(&record, &mut memory), (15, 0));
-    assert_eq!(memory, [0xAA; 261]);
+    assert_eq!(memory, [0xAA; 517]);
 
     plan.push(0x45);
     assert_eq!(sys::decode(&plan), (3, Record::default()));
+
+    // Without its lengths it has 262.
+    let record = record.unmeasured();
+    let mut memory = [0xAA; 263];
+    assert_eq!(sys::encode(&record, &mut memory[..261]), (15, 0));
+    assert_eq!(sys::encode(&record, &mut memory), (0, 262));
+    assert_plan(&memory[..262], &record);
 }
 
 #[test]
@@ -324,7 +386,7 @@ fn a_65th_cable_is_7_or_8_and_1_if_cut_short() {
             let number = if edge <= 63 { 8 } else { 7 };
             assert_eq!(sys::decode(&plan), (number, Record::default()));
             tally.count(compare::decode(&plan));
-            for cut in 261..265 {
+            for cut in 517..521 {
                 let read = sys::decode_before(&plan[..cut], &plan[cut..]);
                 assert_eq!(read, (1, Record::default()));
                 tally.count(1);

@@ -20,12 +20,16 @@ static const uint8_t bridge[26] = {
     0x50, 4, 0x53, 0, 3, 0x43, 0, 0, 1, 0x43, 1, 0, 2, 0x43, 2, 1, 2, 0x43, 3, 1, 3, 0x43, 4, 2, 3, 0x45,
 };
 
+/* Two points joined by cable 5 of 260 metres. */
+static const uint8_t measured[14] = {0x50, 2, 0x53, 0, 1, 0x43, 5, 0, 1, 0x4D, 5, 1, 4, 0x45};
+
 int main(void)
 {
     static const uint64_t cuts_listed[5] = {3, 14, 21, 24, 7};
     static const uint64_t sides_listed[5] = {1, 3, 5, 7, 9};
     struct cutlist_plan plan, zero;
     uint8_t bytes[27], verdict;
+    uint32_t total;
     uint64_t cuts[5] = {7, 7, 7, 7, 7}, edges;
     uint64_t sides[5] = {9, 9, 9, 9, 9}, nodes;
     size_t count;
@@ -37,10 +41,12 @@ int main(void)
     CHECK(plan.nodes == 0 && plan.source == 0 && plan.sink == 0 && plan.present == 0);
     CHECK(memcmp(plan.first, zero.first, CUTLIST_SLOTS) == 0);
     CHECK(memcmp(plan.second, zero.second, CUTLIST_SLOTS) == 0);
+    CHECK(memcmp(plan.metres, zero.metres, sizeof zero.metres) == 0);
     CHECK(cutlist_plan_fault(&plan) == CUTLIST_BAD_NODE_COUNT);
     CHECK(cutlist_plan_decode(bridge, 26, &plan) == CUTLIST_ACCEPTED);
     CHECK(plan.nodes == 4 && plan.source == 0 && plan.sink == 3 && plan.present == 31);
     CHECK(plan.first[3] == 1 && plan.second[3] == 3);
+    CHECK(memcmp(plan.metres, zero.metres, sizeof zero.metres) == 0);
 
     /* Writing. */
     memset(bytes, 0xAA, sizeof bytes);
@@ -59,6 +65,23 @@ int main(void)
     CHECK(cutlist_plan_list(&plan, cuts, 5, sides, 5, &count) == CUTLIST_ACCEPTED && count == 4);
     CHECK(memcmp(cuts, cuts_listed, sizeof cuts) == 0);
     CHECK(memcmp(sides, sides_listed, sizeof sides) == 0);
+
+    /* Lengths: in the struct, in bytes, and of sets. */
+    plan.metres[0] = 7;
+    plan.metres[1] = 25;
+    plan.metres[4] = 65535;
+    CHECK(cutlist_plan_metres(&plan, 18, &total) == CUTLIST_ACCEPTED && total == 65560);
+    CHECK(cutlist_plan_metres(&plan, 5, &total) == CUTLIST_ACCEPTED && total == 7);
+    CHECK(cutlist_plan_metres(&plan, 12, &total) == CUTLIST_ACCEPTED && total == 0);
+    CHECK(cutlist_plan_metres(&plan, 50, &total) == CUTLIST_EDGE_NOT_PRESENT && total == 0);
+    plan.metres[5] = 1;
+    CHECK(cutlist_plan_metres(&plan, 18, &total) == CUTLIST_ABSENT_EDGE_NOT_ZERO && total == 0);
+    CHECK(cutlist_plan_decode(measured, 14, &plan) == CUTLIST_ACCEPTED);
+    CHECK(plan.present == 32 && plan.metres[5] == 260 && plan.metres[4] == 0);
+    CHECK(cutlist_plan_encode(&plan, bytes, 27, &count) == CUTLIST_ACCEPTED && count == 14);
+    CHECK(memcmp(bytes, measured, 14) == 0);
+    bytes[10] = 6;
+    CHECK(cutlist_plan_decode(bytes, 14, &plan) == CUTLIST_BAD_LENGTH && plan.metres[5] == 0);
 
     /* A struct that is filled in. */
     plan = zero;

@@ -1,7 +1,8 @@
 //! The list program, run as a program: what it prints, byte for byte.
 
+use std::array;
 use std::fs;
-use std::io::Write;
+use std::io::{Seek, Write};
 use std::net::{TcpListener, TcpStream};
 use std::os::fd::OwnedFd;
 use std::path::{Path, PathBuf};
@@ -9,7 +10,10 @@ use std::process::{Command, Stdio};
 use std::thread;
 use std::time::Duration;
 
+use cutlist_tests::lengths;
 use cutlist_tests::plans;
+use cutlist_tests::record::Record;
+use cutlist_tests::reference::DECIDING;
 use cutlist_tests::rng::Rng;
 use cutlist_tests::{brute, halls, reference, sides};
 
@@ -70,7 +74,7 @@ fn numbers(set: u64) -> String {
 
 /// What the paper says is printed for these bytes.
 fn expected(input: &[u8]) -> String {
-    let plan = &input[..input.len().min(265)];
+    let plan = &input[..input.len().min(DECIDING)];
     let record = match reference::decode(plan) {
         Ok(record) => record,
         Err(refusal) => return format!("refused {}\n", refusal as u8),
@@ -114,7 +118,7 @@ fn every_hall_of_the_folder_is_printed_as_the_paper_says() {
         assert_eq!(print(&plan), expected(&plan), "{}", path.display());
         seen += 1;
     }
-    assert!(seen >= 15, "{seen} halls");
+    assert!(seen >= 20, "{seen} halls");
 }
 
 #[test]
@@ -143,10 +147,14 @@ fn more_than_2048_cuts_are_refused_with_12() {
     assert_eq!(print(&most), expected(&most));
 }
 
-/// Two points joined by all 64 cables: the longest plan.
+/// Two points joined by all 64 cables, each with its length: the longest plan.
 fn longest() -> Vec<u8> {
-    let plan = plans::bytes(&halls::two_points(64));
-    assert_eq!(plan.len(), 262);
+    let hall = Record {
+        metres: array::from_fn(|edge| 1021 * edge as u16 + 1),
+        ..halls::two_points(64)
+    };
+    let plan = plans::bytes(&hall);
+    assert_eq!(plan.len(), 518);
     plan
 }
 
@@ -156,28 +164,81 @@ fn the_longest_plan_is_listed() {
         print(&longest()),
         format!("cuts 1\n{} | 0\n", numbers(u64::MAX))
     );
+    // So it is without the lengths.
+    let cables = plans::bytes(&halls::two_points(64));
+    assert_eq!(cables.len(), 262);
+    assert_eq!(print(&cables), print(&longest()));
+}
+
+#[test]
+fn a_plan_without_its_last_byte_is_refused_with_1() {
+    assert_eq!(print(&longest()[..517]), "refused 1\n");
+    assert_eq!(print(&longest()[..515]), "refused 1\n");
+}
+
+#[test]
+fn the_last_length_is_looked_at() {
+    let mut plan = longest();
+    assert_eq!(plan[513..515], [0x4D, 63]);
+    plan[514] = 62;
+    assert_eq!(print(&plan), "refused 28\n");
+    (plan[514], plan[515], plan[516]) = (63, 0, 0);
+    assert_eq!(print(&plan), "refused 28\n");
+    plan[516] = 1;
+    assert_eq!(print(&plan), print(&longest()));
 }
 
 #[test]
 fn a_byte_after_the_longest_plan_is_refused_with_3() {
     for byte in [0x00, 0x43, 0x45] {
-        let mut plan = longest();
-        plan.push(byte);
-        assert_eq!(print(&plan), "refused 3\n");
+        for length in [519, 520, 521, 522, 523, 1000] {
+            let mut plan = longest();
+            plan.resize(length, byte);
+            assert_eq!(print(&plan), "refused 3\n");
+        }
     }
 }
 
 #[test]
-fn a_65th_cable_is_refused_at_byte_265() {
+fn a_65th_cable_is_refused_at_byte_521() {
     for (number, refused) in [(64, "refused 7\n"), (63, "refused 8\n")] {
         let mut plan = longest();
         assert_eq!(plan.pop(), Some(0x45));
         plan.extend([0x43, number, 0, 1]);
-        assert_eq!(plan.len(), 265);
+        assert_eq!(plan.len(), 521);
         assert_eq!(print(&plan), refused);
-        assert_eq!(print(&plan[..264]), "refused 1\n");
+        for length in 517..521 {
+            assert_eq!(print(&plan[..length]), "refused 1\n");
+        }
         plan.push(0x45);
         assert_eq!(print(&plan), refused);
+        plan.resize(100_000, 0);
+        assert_eq!(print(&plan), refused);
+    }
+}
+
+/// By how far it has come in a file.
+#[test]
+fn it_reads_521_bytes_and_no_more() {
+    let path = Path::new(env!("CARGO_TARGET_TMPDIR")).join("program-input");
+    let read = |length: usize| {
+        let mut input = longest();
+        input.resize(length, 0x45);
+        fs::write(&path, input).expect("a file");
+        let mut file = fs::File::open(&path).expect("the file");
+        let status = Command::new(root().join("target/bin/list"))
+            .stdin(file.try_clone().expect("the same file"))
+            .stdout(Stdio::null())
+            .status()
+            .expect("the list program");
+        assert!(status.success());
+        file.stream_position().expect("its place")
+    };
+    for length in [0, 1, 262, 265, 518, 519, 520, 521] {
+        assert_eq!(read(length), length as u64);
+    }
+    for length in [522, 523, 1000, 100_000] {
+        assert_eq!(read(length), 521);
     }
 }
 
@@ -199,7 +260,7 @@ fn an_input_in_parts_is_put_together() {
     let bridge = plans::bytes(&halls::bridge());
     assert_eq!(print_parts(bridge.chunks(1), pause), expected(&bridge));
     let longest = longest();
-    for size in [1, 7, 100, 261] {
+    for size in [1, 7, 100, 261, 517] {
         assert_eq!(print_parts(longest.chunks(size), pause), expected(&longest));
     }
 }
@@ -265,9 +326,10 @@ fn random_plans_are_printed_as_the_paper_says() {
             0 => small,
             _ => plans::spread(&mut rng, &small).0,
         };
-        let plan = plans::bytes(&record);
+        let plan = plans::bytes(&lengths::measured(&mut rng, &record));
         let text = print(&plan);
         assert_eq!(text, expected(&plan));
+        assert_eq!(text, expected(&plans::bytes(&record)));
         lists += usize::from(text.starts_with("cuts"));
     }
     assert_eq!(lists, 300);

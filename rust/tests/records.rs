@@ -1,10 +1,12 @@
 //! Records built field by field: the record test finds the first fault in the paper's order, and
-//! the writer refuses with that number before it looks at the buffer. A loop is no fault.
+//! the writer refuses with that number before it looks at the buffer. A loop is no fault, and neither
+//! are the metres of a cable present.
 
 use cutlist_tests::compare;
+use cutlist_tests::lengths;
 use cutlist_tests::plans;
 use cutlist_tests::record::{Record, MOST_NODES, SLOTS};
-use cutlist_tests::reference::FAULTS;
+use cutlist_tests::reference::{FAULTS, LONGEST_PLAN};
 use cutlist_tests::rng::Rng;
 use cutlist_tests::sys;
 use cutlist_tests::tally::Tally;
@@ -13,8 +15,8 @@ use cutlist_tests::tally::Tally;
 fn assert_fault(record: &Record, number: u8) {
     assert_eq!(sys::fault(record), number, "{record:?}");
     assert_eq!(compare::fault(record), number, "{record:?}");
-    let before = [0xAA; 270];
-    for room in [0, 5, 262, 270] {
+    let before = [0xAA; LONGEST_PLAN + 8];
+    for room in [0, 5, LONGEST_PLAN, before.len()] {
         let mut memory = before;
         let answer = sys::encode(record, &mut memory[..room]);
         assert_eq!(answer, (number, 0), "{record:?}");
@@ -29,16 +31,34 @@ fn changed(record: &Record, change: impl FnOnce(&mut Record)) -> Record {
     record
 }
 
-/// A fault in one slot, by its number.
-fn spoil(record: &mut Record, slot: usize, number: u8) {
-    let (present, first, second) = match number {
-        9 => (true, 0, record.nodes),
-        13 => (false, 0, 1),
-        _ => unreachable!("{number} is no fault of a slot"),
+/// The faults of a slot: an end outside, an end or metres of an absent edge.
+#[derive(Clone, Copy, Debug)]
+enum Spoilt {
+    End,
+    AbsentEnd,
+    AbsentMetres,
+}
+
+impl Spoilt {
+    const ALL: [Spoilt; 3] = [Spoilt::End, Spoilt::AbsentEnd, Spoilt::AbsentMetres];
+
+    fn number(self) -> u8 {
+        match self {
+            Spoilt::End => 9,
+            Spoilt::AbsentEnd | Spoilt::AbsentMetres => 13,
+        }
+    }
+}
+
+/// Puts a fault into one slot.
+fn spoil(record: &mut Record, slot: usize, fault: Spoilt) {
+    let (present, second, metres) = match fault {
+        Spoilt::End => (true, record.nodes, record.metres[slot]),
+        Spoilt::AbsentEnd => (false, 1, 0),
+        Spoilt::AbsentMetres => (false, 0, 1),
     };
     record.present = record.present & !(1 << slot) | u64::from(present) << slot;
-    record.first[slot] = first;
-    record.second[slot] = second;
+    (record.first[slot], record.second[slot], record.metres[slot]) = (0, second, metres);
 }
 
 #[test]
@@ -69,6 +89,12 @@ fn one_fault_alone_gives_its_number() {
                 record.present &= !(1 << slot);
                 assert_fault(&record, 13);
             }
+        }
+        for metres in [1, 255, 256, 65_535] {
+            let absent = good.clone().without(1 << slot);
+            assert_fault(&absent.with_metres(slot, metres), 13);
+            let present = good.clone().with(slot, 0, 1).with_metres(slot, metres);
+            assert_eq!(compare::fault(&present), 0);
         }
     }
 }
@@ -105,29 +131,30 @@ fn the_lowest_faulty_slot_decides() {
     let mut tally = Tally::default();
     for high in 1..SLOTS {
         for low in 0..high {
-            for number in [9, 13] {
-                for later in [9, 13] {
+            for fault in Spoilt::ALL {
+                for later in Spoilt::ALL {
                     let present = rng.draw();
-                    let mut record = plans::record_with(&mut rng, present);
-                    spoil(&mut record, low, number);
+                    let record = plans::record_with(&mut rng, present);
+                    let mut record = lengths::measured(&mut rng, &record);
+                    spoil(&mut record, low, fault);
                     spoil(&mut record, high, later);
-                    assert_eq!(sys::fault(&record), number, "{record:?}");
+                    assert_eq!(sys::fault(&record), fault.number(), "{record:?}");
                     tally.count(compare::fault(&record));
                 }
             }
         }
     }
     tally.assert_only(&[9, 13]);
-    tally.assert_each(&[9, 13], 2 * 2016);
+    assert_eq!((tally.of(9), tally.of(13)), (3 * 2016, 6 * 2016));
 }
 
 #[test]
 fn points_server_and_room_come_before_the_slots_in_the_order_4_5_6() {
-    for number in [9, 13] {
+    for fault in Spoilt::ALL {
         for slot in [0, 1, 31, 32, 63] {
             let mut record = Record::bare(5, 0, 4);
-            spoil(&mut record, slot, number);
-            assert_fault(&record, number);
+            spoil(&mut record, slot, fault);
+            assert_fault(&record, fault.number());
             assert_fault(&changed(&record, |r| r.sink = 0), 6);
             assert_fault(&changed(&record, |r| r.sink = 5), 5);
             assert_fault(&changed(&record, |r| r.source = 5), 5);
@@ -195,16 +222,20 @@ fn random_records_are_tested_and_written_alike() {
     let mut tested = Tally::default();
     let mut written = Tally::default();
     for _ in 0..200_000 {
-        let mut record = plans::record(&mut rng);
+        let record = plans::record(&mut rng);
+        let mut record = lengths::measured(&mut rng, &record);
         for _ in 0..rng.below(4) {
             plans::corrupt(&mut rng, &mut record);
+        }
+        if rng.once_in(4) {
+            lengths::corrupt(&mut rng, &mut record);
         }
         let fault = compare::fault(&record);
         tested.count(fault);
         let room = match rng.below(4) {
             0 => 0,
-            1 => 262 + rng.below(20),
-            _ => rng.below(262),
+            1 => LONGEST_PLAN + rng.below(20),
+            _ => rng.below(LONGEST_PLAN),
         };
         let refusal = compare::encode(&record, &rng.bytes(room));
         assert!(refusal == fault || (fault, refusal) == (0, 15));
@@ -237,6 +268,9 @@ fn wild_records_are_tested_alike() {
             if record.holds(slot) || rng.once_in(40) {
                 record.first[slot] = rng.below(bound) as u8;
                 record.second[slot] = rng.below(bound) as u8;
+            }
+            if record.holds(slot) || rng.once_in(200) {
+                record.metres[slot] = rng.draw() as u16;
             }
         }
         tally.count(compare::fault(&record));

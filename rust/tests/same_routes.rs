@@ -5,6 +5,7 @@ use std::collections::HashMap;
 
 use cutlist_tests::answers::Nodes;
 use cutlist_tests::halls;
+use cutlist_tests::lengths;
 use cutlist_tests::plans;
 use cutlist_tests::record::Record;
 use cutlist_tests::rng::Rng;
@@ -87,16 +88,17 @@ fn with_other_useless_cables(rng: &mut Rng, record: &Record) -> Record {
 #[test]
 fn plans_with_the_same_routes_have_equal_lists() {
     let mut rng = Rng::new(62);
-    let (mut twists, mut useless, mut no_route) = (0, 0, 0);
+    let (mut twists, mut useless, mut measured, mut no_route) = (0, 0, 0, 0);
     for _ in 0..6_000 {
         let record = plans::small(&mut rng, 10);
         let routes = brute::minpaths(&record);
         let mut other = record.clone();
         for _ in 0..6 {
-            other = match rng.below(4) {
+            other = match rng.below(5) {
                 0 => plans::renamed(&mut rng, &other),
                 1 => halls::turned(other),
-                2 if other.nodes < 14 => {
+                2 => lengths::measured(&mut rng, &other),
+                3 if other.nodes < 14 => {
                     useless += 1;
                     with_other_useless_cables(&mut rng, &other)
                 }
@@ -111,9 +113,10 @@ fn plans_with_the_same_routes_have_equal_lists() {
         }
         assert_eq!(brute::minpaths(&other), routes, "{record:?}\n{other:?}");
         assert!(compare(&mut rng, &record, &other));
+        measured += u32::from(other.measured() != 0);
         no_route += u32::from(routes.is_empty());
     }
-    let all = [twists, useless, no_route];
+    let all = [twists, useless, measured, no_route];
     assert!(all.iter().all(|&count| count > 500), "{all:?}");
 }
 

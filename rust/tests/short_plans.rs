@@ -63,7 +63,7 @@ fn all_inputs_of_up_to_3_bytes() {
 
 #[test]
 fn all_continuations_of_up_to_2_bytes() {
-    let prefixes: [(&[u8], &[u8]); 12] = [
+    let prefixes: [(&[u8], &[u8]); 18] = [
         (&[0x50], &[1, 2, 4]),
         (&[0x50, 4], &[1, 2]),
         (&[0x50, 4, 0x53], &[1, 5, 6]),
@@ -76,20 +76,39 @@ fn all_continuations_of_up_to_2_bytes() {
         (&[0x50, 4, 0x53, 0, 3, 0x43, 7, 1, 2], &[0, 1, 2, 3]),
         (&[0x50, 4, 0x53, 0, 3, 0x43, 7, 1, 2, 0x43, 7], &[1, 8]),
         (&[0x50, 4, 0x53, 0, 3, 0x43, 7, 1, 2, 0x45], &[0, 3]),
+        (&[0x50, 4, 0x53, 0, 3, 0x43, 7, 1, 2, 0x4D], &[1]),
+        (&[0x50, 4, 0x53, 0, 3, 0x43, 7, 1, 2, 0x4D, 7], &[1, 28]),
+        (&[0x50, 4, 0x53, 0, 3, 0x43, 7, 1, 2, 0x4D, 0x40], &[1, 28]),
+        (
+            &[0x50, 4, 0x53, 0, 3, 0x43, 7, 1, 2, 0x4D, 7, 0],
+            &[0, 1, 2, 28],
+        ),
+        (
+            &[0x50, 4, 0x53, 0, 3, 0x43, 7, 1, 2, 0x4D, 7, 1, 0],
+            &[0, 1, 2, 3],
+        ),
+        (
+            &[0x50, 4, 0x53, 0, 3, 0x43, 7, 1, 2, 0x4D, 7, 1, 0, 0x43, 7],
+            &[1, 8],
+        ),
     ];
     for (prefix, numbers) in prefixes {
         assert_up_to_2_more(prefix, numbers);
     }
 }
 
-/// The same where all 64 cables have come.
+/// The same where all 64 cables have come, without lengths and with them.
 #[test]
 fn all_continuations_of_64_cables() {
-    let mut full = vec![0x50, MOST_NODES, 0x53, 31, 0];
+    let start = vec![0x50, MOST_NODES, 0x53, 31, 0];
+    let (mut full, mut measured) = (start.clone(), start);
     for edge in 0..64 {
-        full.extend([0x43, edge, edge / 2, 31 - edge / 2]);
+        let cable = [0x43, edge, edge / 2, 31 - edge / 2];
+        full.extend(cable);
+        measured.extend(cable);
+        measured.extend([0x4D, edge, edge, 1]);
     }
-    assert_eq!(full.len(), 261);
+    assert_eq!((full.len(), measured.len()), (261, 517));
     let more: [(&[u8], &[u8]); 5] = [
         (&[], &[0, 1, 2, 3]),
         (&[0x45], &[0, 3]),
@@ -99,7 +118,11 @@ fn all_continuations_of_64_cables() {
     ];
     for (more, numbers) in more {
         assert_up_to_2_more(&[&full, more].concat(), numbers);
+        assert_up_to_2_more(&[&measured, more].concat(), numbers);
     }
+    assert_up_to_2_more(&[&full, &[0x4D, 0x3F][..]].concat(), &[1, 28]);
+    assert_up_to_2_more(&[&full, &[0x4D, 0x3F, 0][..]].concat(), &[0, 1, 2, 28]);
+    assert_up_to_2_more(&[&measured, &[0x4D][..]].concat(), &[2]);
 }
 
 /// All continuations of up to 2 bytes give these numbers, each of them and no other.
@@ -113,7 +136,7 @@ fn assert_up_to_2_more(prefix: &[u8], numbers: &[u8]) {
     tally.assert_each(numbers, 1);
 }
 
-/// The operands of 43 and 53 in all combinations, sparse only far above the limits.
+/// The operands of 43, 53 and 4D in all combinations, sparse only far above the limits.
 #[test]
 fn all_operands_of_a_command() {
     let sparse: Vec<u8> = (0..=70).chain([126, 127, 128, 129, 254, 255]).collect();
@@ -158,12 +181,26 @@ fn all_operands_of_a_command() {
             .map(|n| n * (n - 1))
             .sum::<u64>()
     );
+
+    let mut tally = Tally::default();
+    for number in every_byte() {
+        for &high in &sparse {
+            for low in every_byte() {
+                let mut plan = vec![0x50, 2, 0x53, 0, 1, 0x43, 30, 0, 1];
+                plan.extend([0x4D, number, high, low, 0x45]);
+                tally.count(compare::decode(&plan));
+            }
+        }
+    }
+    // Any metres but 0 for the one fit number.
+    tally.assert_only(&[0, 28]);
+    assert_eq!(tally.of(0), sparse.len() as u64 * 256 - 1);
 }
 
 /// Longer continuations over the few bytes that mean something on a hall of two points.
 #[test]
 fn all_continuations_over_few_bytes() {
-    let alphabet = [0x00, 0x01, 0x02, 0x3F, 0x40, 0x43, 0x45];
+    let alphabet = [0x00, 0x01, 0x02, 0x3F, 0x40, 0x43, 0x45, 0x4D];
     let mut tally = Tally::default();
     for length in 0..=7 {
         continuations(&[0x50, 2, 0x53, 0, 1], length, &alphabet, &mut tally);
@@ -172,10 +209,10 @@ fn all_continuations_over_few_bytes() {
     for length in 0..=6 {
         continuations(&second_edge, length, &alphabet, &mut tally);
     }
-    tally.assert_only(&[0, 1, 2, 3, 7, 8, 9]);
-    tally.assert_each(&[0, 1, 2, 3, 7, 8, 9], 10);
+    tally.assert_only(&[0, 1, 2, 3, 7, 8, 9, 28]);
+    tally.assert_each(&[0, 1, 2, 3, 7, 8, 9, 28], 10);
 
-    let alphabet = [0x00, 0x01, 0x02, 0x40, 0x41, 0x45, 0x50, 0x53];
+    let alphabet = [0x00, 0x01, 0x02, 0x40, 0x41, 0x45, 0x4D, 0x50, 0x53];
     let mut tally = Tally::default();
     for length in 0..=6 {
         continuations(&[], length, &alphabet, &mut tally);

@@ -14,6 +14,7 @@ use std::process::{Command, Stdio};
 
 use cutlist_tests::answers::Nodes;
 use cutlist_tests::halls;
+use cutlist_tests::lengths;
 use cutlist_tests::plans;
 use cutlist_tests::record::Record;
 use cutlist_tests::reference;
@@ -92,7 +93,7 @@ fn list(r: &Record, rows: &mut Rows, lent: usize) -> (usize, u8) {
 /// The most stack that one of the other calls on a record takes, and the reader on its bytes.
 fn others(r: &Record) -> usize {
     let mut plan = [0; reference::LONGEST_PLAN];
-    let (mut count, mut verdict, mut nodes, mut edges) = (0, 0, 0, 0);
+    let (mut count, mut verdict, mut nodes, mut edges, mut total) = (0, 0, 0, 0, 0);
     let mut read = Record::default();
     // SAFETY: each pointer is valid for its type and length, and no two overlap.
     let stacks = unsafe {
@@ -107,6 +108,9 @@ fn others(r: &Record) -> usize {
                 capi::cutlist_classify(r, r.present, &mut verdict);
             }),
             stack_of(|| {
+                capi::cutlist_metres(r, r.present, &mut total);
+            }),
+            stack_of(|| {
                 capi::cutlist_encode(r, plan.as_mut_ptr(), plan.len(), &mut count);
             }),
             stack_of(|| {
@@ -114,7 +118,7 @@ fn others(r: &Record) -> usize {
             }),
         ]
     };
-    stacks.into_iter().max().expect("five calls")
+    stacks.into_iter().max().expect("six calls")
 }
 
 fn widths(cuts: &[u64]) -> usize {
@@ -173,12 +177,16 @@ fn the_paint_shows_what_a_call_takes() {
 #[test]
 fn no_call_takes_more_than_the_header_says() {
     let most = said_by_the_header("#define CUTLIST_STACK_BYTES ");
+    let others_most = 1024 * said_by_the_header("* call less than ");
     let mut rows = Rows::new();
     let mut rng = Rng::new(71);
     let mut deepest = 0;
     let mut refusals = Tally::default();
     let random = (0..400).map(|round| {
         let mut record = plans::large(&mut rng);
+        if round % 2 == 0 {
+            record = lengths::measured(&mut rng, &record);
+        }
         if round % 8 == 0 {
             plans::corrupt(&mut rng, &mut record);
         }
@@ -191,7 +199,7 @@ fn no_call_takes_more_than_the_header_says() {
             refusals.count(refusal);
         }
         let stack = others(&hall);
-        assert!(stack < 1024, "{stack} bytes: {hall:?}");
+        assert!(stack < others_most, "{stack} bytes: {hall:?}");
     }
     refusals.assert_each(&[0], 500);
     refusals.assert_each(&[12], 300);
@@ -204,7 +212,7 @@ fn no_call_takes_more_than_the_header_says() {
 
     for cuts in [&rows.cuts[..0], &rows.cuts] {
         let stack = widths(cuts);
-        assert!(stack < 1024, "{stack} bytes");
+        assert!(stack < others_most, "{stack} bytes");
     }
 }
 

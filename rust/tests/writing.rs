@@ -1,6 +1,8 @@
 //! The writer and the memory lent to it: what every byte holds afterwards.
 
+use cutlist_tests::lengths;
 use cutlist_tests::plans;
+use cutlist_tests::reference::LONGEST_PLAN;
 use cutlist_tests::rng::Rng;
 use cutlist_tests::tally::Tally;
 use cutlist_tests::{compare, sys};
@@ -13,8 +15,10 @@ fn every_buffer_length() {
     let mut tally = Tally::default();
     for _ in 0..400 {
         let record = plans::record(&mut rng);
-        let needed = 6 + 4 * record.present.count_ones() as usize;
-        for room in 0..=270 {
+        let record = lengths::measured(&mut rng, &record);
+        let commands = record.present.count_ones() + record.measured().count_ones();
+        let needed = 6 + 4 * commands as usize;
+        for room in 0..=LONGEST_PLAN + 8 {
             let number = compare::encode(&record, &rng.bytes(room));
             assert_eq!(number, if room < needed { 15 } else { 0 }, "{record:?}");
             tally.count(number);
@@ -31,6 +35,7 @@ fn buffers_around_the_exact_length() {
     let mut tally = Tally::default();
     for _ in 0..60_000 {
         let record = plans::record(&mut rng);
+        let record = lengths::measured(&mut rng, &record);
         let plan = plans::bytes(&record);
         for room in [
             plan.len() - 1,
@@ -49,12 +54,24 @@ fn buffers_around_the_exact_length() {
 #[test]
 fn what_is_written_reads_back() {
     let mut rng = Rng::new(23);
+    let (mut unmeasured, mut longest) = (0, 0);
+    let limits = [1, 255, 256, 257, 65_280, 65_535];
+    let mut met = [0; 6];
     for _ in 0..60_000 {
         let record = plans::record(&mut rng);
-        let mut memory = rng.bytes(280);
+        let record = lengths::measured(&mut rng, &record);
+        let mut memory = rng.bytes(LONGEST_PLAN + 18);
         let (refusal, count) = sys::encode(&record, &mut memory);
         assert_eq!(refusal, 0, "{record:?}");
         let (plan, beyond) = memory.split_at(count);
-        assert_eq!(sys::decode_before(plan, beyond), (0, record));
+        assert_eq!(sys::decode_before(plan, beyond), (0, record.clone()));
+
+        unmeasured += u32::from(record.measured() == 0);
+        longest += u32::from(count == LONGEST_PLAN);
+        for (met, limit) in met.iter_mut().zip(&limits) {
+            *met += u32::from(record.metres.contains(limit));
+        }
     }
+    assert!(unmeasured > 3_000 && longest > 3_000);
+    assert!(met.iter().all(|&plans| plans > 3_000), "{met:?}");
 }

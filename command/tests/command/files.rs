@@ -78,16 +78,11 @@ fn a_plan_that_comes_in_pieces_is_taken_whole() {
 }
 
 #[test]
-fn the_first_265_bytes_decide() {
-    // A 65th cable, whose command ends with byte 265.
-    let mut plan = vec![0x50, 2, 0x53, 0, 1];
-    for cable in 0..64 {
-        plan.extend([0x43, cable, 0, 1]);
-    }
-    let longest = [&plan[..], &[0x45]].concat();
-    assert_eq!(longest.len(), 262);
+fn the_first_521_bytes_decide() {
     let all: Vec<String> = (0..64).map(|cable| cable.to_string()).collect();
     let list = format!("cuts 1\n{} | 0\n", all.join(" "));
+    let longest = longest();
+    assert_eq!(longest.len(), 518);
 
     let folder = Folder::new();
     cutlist(&[&folder.file("longest", &longest)]).listed(&list);
@@ -97,9 +92,11 @@ fn the_first_265_bytes_decide() {
         cutlist(&[&folder.file("after", &after)]).refused(3, "a byte after 45");
         cutlist(&[&folder.file("after.hex", hexadecimal(&after))]).refused(3, "a byte after 45");
     }
-    plan.extend([0x43, 64, 0, 1]);
+    // A 65th cable, whose command ends with byte 521.
+    let mut plan = [&longest[..517], &[0x43, 64, 0, 1]].concat();
     cutlist(&[&folder.file("above", &plan)]).refused(7, "cable number above 63");
-    plan[262] = 63;
+    cutlist(&[&folder.file("short", &plan[..520])]).refused(1, "the plan stops early");
+    plan[518] = 63;
     cutlist(&[&folder.file("again", &plan)]).refused(8, "cable number not above the one before");
 }
 

@@ -12,7 +12,7 @@ fn halls() -> Vec<PathBuf> {
         .map(|entry| entry.expect("an entry").path())
         .collect();
     halls.sort();
-    assert!(halls.len() >= 15, "{}", halls.len());
+    assert!(halls.len() >= 20, "{}", halls.len());
     halls
 }
 
@@ -47,8 +47,43 @@ fn every_hall_is_printed_as_the_list_program_prints_it() {
 }
 
 #[test]
-fn patch_loops_change_no_list() {
+fn neither_patch_loops_nor_lengths_change_a_list() {
     cutlist(&[&root().join("halls/patch-loops.hex")]).listed(BRIDGE_LIST);
+    cutlist(&[&root().join("halls/measured-bridge.hex")]).listed(BRIDGE_LIST);
+}
+
+/// The metres of each hall by its lengths, as they stand in the text.
+#[test]
+fn every_hall_is_added_up() {
+    let mut measured = 0;
+    for hall in halls() {
+        let plan = bytes_of(&fs::read_to_string(&hall).expect("text"));
+        let ended = run(Command::new(script()).arg("metres").arg(&hall));
+        let listed = cutlist(&[&hall]);
+        if listed.status == Some(1) {
+            // Refused as it is where it is listed.
+            assert_eq!((ended.status, ended.out), (listed.status, listed.out));
+            assert_eq!(ended.err, listed.err);
+            continue;
+        }
+        let (mut total, mut unmeasured) = (0, vec![]);
+        for command in plan[5..].chunks_exact(4) {
+            match command[0] {
+                0x43 => unmeasured.push(command[1].to_string()),
+                _ => {
+                    unmeasured.pop();
+                    total += 256 * u32::from(command[2]) + u32::from(command[3]);
+                    measured += 1;
+                }
+            }
+        }
+        let lacking = match &unmeasured[..] {
+            [] => String::new(),
+            numbers => format!("unmeasured {}\n", numbers.join(" ")),
+        };
+        ended.listed(&format!("metres {total}\n{lacking}"));
+    }
+    assert!(measured >= 4, "{measured} lengths");
 }
 
 #[test]
@@ -67,5 +102,5 @@ fn a_hall_that_is_refused_by_its_name_is_refused_so() {
         );
         seen += 1;
     }
-    assert!(seen >= 5, "{seen}");
+    assert!(seen >= 9, "{seen}");
 }

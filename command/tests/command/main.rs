@@ -3,6 +3,7 @@
 mod building;
 mod files;
 mod halls;
+mod metres;
 mod program;
 mod running;
 mod streams;

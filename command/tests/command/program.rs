@@ -40,7 +40,7 @@ fn it_is_fed_what_decides() {
     let folder = Folder::new();
     folder.script(
         "target/bin/list",
-        "[ \"$(wc -c)\" = 265 ] && printf 'refused 2\\n'",
+        "[ \"$(wc -c)\" = 521 ] && printf 'refused 2\\n'",
     );
     run(Command::new(env!("CARGO_BIN_EXE_cutlist"))
         .arg(&folder.0)

@@ -41,7 +41,7 @@ pub struct Ended {
 }
 
 impl Ended {
-    /// It printed a list, and had nothing to say.
+    /// It printed this, a list or another answer, and had nothing to say.
     pub fn listed(&self, list: &str) {
         let said = (self.status, self.out.as_str(), self.err.as_str());
         assert_eq!(said, (Some(0), list, ""));
@@ -155,6 +155,16 @@ impl Drop for Folder {
 /// Bytes as text.
 pub fn hexadecimal(bytes: &[u8]) -> String {
     bytes.iter().map(|byte| format!("{byte:02x} ")).collect()
+}
+
+/// The longest plan: two points joined by all 64 cables, each of 65,535 metres.
+pub fn longest() -> Vec<u8> {
+    let mut plan = vec![0x50, 2, 0x53, 0, 1];
+    for cable in 0..64 {
+        plan.extend([0x43, cable, 0, 1, 0x4D, cable, 255, 255]);
+    }
+    plan.push(0x45);
+    plan
 }
 
 /// Server and room with `between` points between them, each joined to both: 2^between cuts.

@@ -17,6 +17,8 @@ fn help_is_printed_wherever_it_is_asked_for() {
         &["missing", "-h"],
         &["-", "--help"],
         &["-h", "-x"],
+        &["metres", "-h"],
+        &["metres", "missing", "64", "--help"],
     ] {
         words(asked).listed(usage);
     }
@@ -27,6 +29,7 @@ fn an_unknown_option_is_a_wrong_use() {
     for option in ["-x", "--foo", "-hx", "--help=all", "-1", "---"] {
         words(&[option]).failed(2, &["unknown option ", option, "Usage: cutlist [FILE ..]"]);
         words(&["missing", option]).failed(2, &["unknown option ", option]);
+        words(&["metres", "missing", option]).failed(2, &["unknown option ", option]);
     }
 }
 

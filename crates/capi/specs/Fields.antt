@@ -6,6 +6,7 @@
 --   Found N r n e        finding the relevant part of N gives the refusal r, the nodes n and the edges e
 --   Judged N c r v       judging the set c in N gives the refusal r and the verdict v, by its number
 --   JudgedMeans N c r v  what the refusal r and the verdict v on c mean
+--   Total N c r m        adding up the metres of the set c in N gives the refusal r and the total m
 --   Listing N cuts sides r n cuts′ sides′     listing N into rows that held `cuts` and `sides` gives the refusal r and the count n, and
 --                        leaves cuts′ and sides′ in them
 use mathlib.Core.List.{List}
@@ -17,6 +18,7 @@ use Rattle.network.specs.Record.{Stored}
 use Rattle.format.specs.Format.{decodeOf, encodedBy, bytesAfter}
 use Rattle.graph.specs.Cuts.{Cut, Mincut}
 use Rattle.connectivity.specs.Answers.{relevantOf, verdictOf, numbersOf}
+use Rattle.lengths.specs.Lengths.{totalOf}
 use Rattle.listing.specs.List.{listedBy, cutRowsAfter, sideRowsAfter}
 
 pub record Read (s : List ℕ) (r : ℕ) (N : Network) : Type 0 where
@@ -43,6 +45,10 @@ pub record JudgedMeans (N : Network) (c r v : ℕ) : Type 0 where
   pub not-cut : (v ≡ 1) ↔ ((r ≡ 0) × (Cut N c → ⊥))
   pub not-minimal : (v ≡ 2) ↔ ((r ≡ 0) × Cut N c × (Mincut N c → ⊥))
   pub minimal : (v ≡ 3) ↔ ((r ≡ 0) × Mincut N c)
+
+pub record Total (N : Network) (c r m : ℕ) : Type 0 where
+  pub refusal : r ≡ totalOf N c .refusal
+  pub metres : m ≡ totalOf N c .metres
 
 pub record Listing (N : Network) (cuts sides : List ℕ) (r n : ℕ) (cuts′ sides′ : List ℕ) : Type 0 where
   pub refusal : r ≡ listedBy N cuts sides .refusal

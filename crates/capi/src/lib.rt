@@ -1,6 +1,6 @@
 // The functions for other languages: each takes numbers, lent slices and lent arrays, and whatever it is given.
 //
-// A network crosses the border field by field: the counts and the set of edges as numbers, the ends as two arrays of 64.
+// A network crosses the border field by field: the counts and the set of edges as numbers, ends and metres as arrays of 64.
 // A slice passes as a pointer and a length, an array or a single number as a pointer.
 use edge_set::EdgeSet;
 use network::Network;
@@ -11,8 +11,9 @@ ghost use Rattle.network.specs.Rules.{FaultMeans};
 ghost use Rattle.widths.specs.Widths.{widthsOf};
 ghost use Rattle.format.specs.Meaning.{ReadMeans, WrittenMeans};
 ghost use Rattle.connectivity.specs.Answers.{PartMeans};
+ghost use Rattle.lengths.specs.Lengths.{TotalMeans};
 ghost use Rattle.listing.specs.List.{ListMeans};
-ghost use Rattle.capi.specs.Fields.{Read, Written, Found, Judged, JudgedMeans, Listing};
+ghost use Rattle.capi.specs.Fields.{Read, Written, Found, Judged, JudgedMeans, Total, Listing};
 
 // Reads a plan. Gives the refusal's number, 0 if there is none, and fills in the record, all zero on refusal.
 #[no_mangle]
@@ -24,23 +25,26 @@ pub extern "C" fn cutlist_decode(
     present: &mut u64,
     first: &mut [u8; 64],
     second: &mut [u8; 64],
+    metres: &mut [u16; 64],
 ) -> u8
     ensures { λ r. ⌜ Read (now (plan .entry)) r
-        (assembled (now (nodes .exit)) (now (source .exit)) (now (sink .exit)) (now (present .exit)) (now (first .exit)) (now (second .exit))) ⌝ }
+        (assembled (now (nodes .exit)) (now (source .exit)) (now (sink .exit)) (now (present .exit)) (now (first .exit)) (now (second .exit)) (now (metres .exit))) ⌝ }
     ensures means { λ r. ⌜ ReadMeans (now (plan .entry)) r
-        (assembled (now (nodes .exit)) (now (source .exit)) (now (sink .exit)) (now (present .exit)) (now (first .exit)) (now (second .exit))) ⌝ }
+        (assembled (now (nodes .exit)) (now (source .exit)) (now (sink .exit)) (now (present .exit)) (now (first .exit)) (now (second .exit)) (now (metres .exit))) ⌝ }
 {
     let decoded = reader::decode(plan);
     let read = decoded.network;
     let edges = read.present;
     let firsts = read.first;
     let seconds = read.second;
+    let lengths = read.metres;
     *nodes = read.nodes;
     *source = read.source;
     *sink = read.sink;
     *present = edges.0;
     *first = firsts;
     *second = seconds;
+    *metres = lengths;
     decoded.refusal
 }
 
@@ -52,11 +56,13 @@ fn assemble(
     present: u64,
     first: &[u8; 64],
     second: &[u8; 64],
+    metres: &[u16; 64],
 ) -> Network
-    ensures { λ r. ⌜ r ≡ assembled nodes source sink present (now (first .entry)) (now (second .entry)) ⌝ }
+    ensures { λ r. ⌜ r ≡ assembled nodes source sink present (now (first .entry)) (now (second .entry)) (now (metres .entry)) ⌝ }
 {
     let firsts = *first;
     let seconds = *second;
+    let lengths = *metres;
     Network {
         nodes,
         source,
@@ -64,6 +70,7 @@ fn assemble(
         present: EdgeSet(present),
         first: firsts,
         second: seconds,
+        metres: lengths,
     }
 }
 
@@ -76,11 +83,13 @@ pub extern "C" fn cutlist_fault(
     present: u64,
     first: &[u8; 64],
     second: &[u8; 64],
+    metres: &[u16; 64],
 ) -> u8
-    ensures { λ r. ⌜ r ≡ faultOf (assembled nodes source sink present (now (first .entry)) (now (second .entry))) ⌝ }
-    ensures means { λ r. ⌜ FaultMeans (assembled nodes source sink present (now (first .entry)) (now (second .entry))) r ⌝ }
+    ensures { λ r. ⌜ r ≡ faultOf (assembled nodes source sink present (now (first .entry)) (now (second .entry)) (now (metres .entry))) ⌝ }
+    ensures means { λ r. ⌜ FaultMeans (assembled nodes source sink present (now (first .entry)) (now (second .entry)) (now (metres .entry))) r ⌝ }
 {
-    network::fault(assemble(nodes, source, sink, present, first, second))
+    let to_test = assemble(nodes, source, sink, present, first, second, metres);
+    network::fault(to_test)
 }
 
 // Writes a record into a lent buffer. Gives the refusal's number, 0 if there is none, and the count of bytes written, 0 on refusal.
@@ -92,13 +101,15 @@ pub extern "C" fn cutlist_encode(
     present: u64,
     first: &[u8; 64],
     second: &[u8; 64],
+    metres: &[u16; 64],
     plan: &mut [u8],
     count: &mut usize,
 ) -> u8
-    ensures { λ r. ⌜ Written (assembled nodes source sink present (now (first .entry)) (now (second .entry))) (now (plan .entry)) r (now (count .exit)) (now (plan .exit)) ⌝ }
-    ensures means { λ r. ⌜ WrittenMeans (assembled nodes source sink present (now (first .entry)) (now (second .entry))) r (now (count .exit)) (now (plan .exit)) ⌝ }
+    ensures { λ r. ⌜ Written (assembled nodes source sink present (now (first .entry)) (now (second .entry)) (now (metres .entry))) (now (plan .entry)) r (now (count .exit)) (now (plan .exit)) ⌝ }
+    ensures means { λ r. ⌜ WrittenMeans (assembled nodes source sink present (now (first .entry)) (now (second .entry)) (now (metres .entry))) r (now (count .exit)) (now (plan .exit)) ⌝ }
 {
-    let encoded = writer::encode(assemble(nodes, source, sink, present, first, second), plan);
+    let to_write = assemble(nodes, source, sink, present, first, second, metres);
+    let encoded = writer::encode(to_write, plan);
     *count = encoded.count;
     encoded.refusal
 }
@@ -112,13 +123,15 @@ pub extern "C" fn cutlist_relevant(
     present: u64,
     first: &[u8; 64],
     second: &[u8; 64],
+    metres: &[u16; 64],
     node_set: &mut NodeWord,
     edge_set: &mut u64,
 ) -> u8
-    ensures { λ r. ⌜ Found (assembled nodes source sink present (now (first .entry)) (now (second .entry))) r (now («node_set» .exit)) (now («edge_set» .exit)) ⌝ }
-    ensures means { λ r. ⌜ PartMeans (assembled nodes source sink present (now (first .entry)) (now (second .entry))) r (now («node_set» .exit)) (now («edge_set» .exit)) ⌝ }
+    ensures { λ r. ⌜ Found (assembled nodes source sink present (now (first .entry)) (now (second .entry)) (now (metres .entry))) r (now («node_set» .exit)) (now («edge_set» .exit)) ⌝ }
+    ensures means { λ r. ⌜ PartMeans (assembled nodes source sink present (now (first .entry)) (now (second .entry)) (now (metres .entry))) r (now («node_set» .exit)) (now («edge_set» .exit)) ⌝ }
 {
-    let part = connectivity::relevant(assemble(nodes, source, sink, present, first, second));
+    let to_trim = assemble(nodes, source, sink, present, first, second, metres);
+    let part = connectivity::relevant(to_trim);
     let relevant_nodes = part.nodes;
     let relevant_edges = part.edges;
     *node_set = relevant_nodes.0;
@@ -136,18 +149,40 @@ pub extern "C" fn cutlist_classify(
     present: u64,
     first: &[u8; 64],
     second: &[u8; 64],
+    metres: &[u16; 64],
     set: u64,
     verdict: &mut u8,
 ) -> u8
-    ensures { λ r. ⌜ Judged (assembled nodes source sink present (now (first .entry)) (now (second .entry))) set r (now (verdict .exit)) ⌝ }
-    ensures means { λ r. ⌜ JudgedMeans (assembled nodes source sink present (now (first .entry)) (now (second .entry))) set r (now (verdict .exit)) ⌝ }
+    ensures { λ r. ⌜ Judged (assembled nodes source sink present (now (first .entry)) (now (second .entry)) (now (metres .entry))) set r (now (verdict .exit)) ⌝ }
+    ensures means { λ r. ⌜ JudgedMeans (assembled nodes source sink present (now (first .entry)) (now (second .entry)) (now (metres .entry))) set r (now (verdict .exit)) ⌝ }
 {
-    let judged = connectivity::classify(
-        assemble(nodes, source, sink, present, first, second),
-        EdgeSet(set),
-    );
+    let to_judge = assemble(nodes, source, sink, present, first, second, metres);
+    let judged = connectivity::classify(to_judge, EdgeSet(set));
     *verdict = connectivity::verdict_number(judged);
     connectivity::refusal_number(judged)
+}
+
+// Gives the total metres of a set of edges, to which one that is not measured adds 0. Gives the refusal's number, 0 if there is none, and
+// fills in the total, 0 on refusal.
+#[no_mangle]
+pub extern "C" fn cutlist_metres(
+    nodes: u8,
+    source: u8,
+    sink: u8,
+    present: u64,
+    first: &[u8; 64],
+    second: &[u8; 64],
+    metres: &[u16; 64],
+    set: u64,
+    total: &mut u32,
+) -> u8
+    ensures { λ r. ⌜ Total (assembled nodes source sink present (now (first .entry)) (now (second .entry)) (now (metres .entry))) set r (now (total .exit)) ⌝ }
+    ensures means { λ r. ⌜ TotalMeans (assembled nodes source sink present (now (first .entry)) (now (second .entry)) (now (metres .entry))) set r (now (total .exit)) ⌝ }
+{
+    let to_measure = assemble(nodes, source, sink, present, first, second, metres);
+    let measured = lengths::total(to_measure, EdgeSet(set));
+    *total = measured.metres;
+    measured.refusal
 }
 
 // Lists the minimal cuts, rising, each beside its near side. Gives the refusal's number, 0 if there is none, and the count of rows listed,
@@ -160,17 +195,18 @@ pub extern "C" fn cutlist_list(
     present: u64,
     first: &[u8; 64],
     second: &[u8; 64],
+    metres: &[u16; 64],
     cuts: &mut [u64],
     sides: &mut [NodeWord],
     count: &mut usize,
 ) -> u8
-    ensures { λ r. ⌜ Listing (assembled nodes source sink present (now (first .entry)) (now (second .entry))) (now (cuts .entry)) (now (sides .entry))
+    ensures { λ r. ⌜ Listing (assembled nodes source sink present (now (first .entry)) (now (second .entry)) (now (metres .entry))) (now (cuts .entry)) (now (sides .entry))
         r (now (count .exit)) (now (cuts .exit)) (now (sides .exit)) ⌝ }
-    ensures means { λ r. ⌜ ListMeans (assembled nodes source sink present (now (first .entry)) (now (second .entry))) (now (cuts .entry)) (now (sides .entry))
+    ensures means { λ r. ⌜ ListMeans (assembled nodes source sink present (now (first .entry)) (now (second .entry)) (now (metres .entry))) (now (cuts .entry)) (now (sides .entry))
         r (now (count .exit)) (now (cuts .exit)) (now (sides .exit)) ⌝ }
 {
-    let hall = assemble(nodes, source, sink, present, first, second);
-    let listed = listing::list(hall, cuts, sides);
+    let to_list = assemble(nodes, source, sink, present, first, second, metres);
+    let listed = listing::list(to_list, cuts, sides);
     *count = listed.count;
     listed.refusal
 }

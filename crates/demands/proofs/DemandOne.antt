@@ -20,7 +20,7 @@ use Rattle.network.proofs.Refusals.{none-then, some-then, some-when, none-when,
 use Rattle.network.proofs.Rules.{fault-rules}
 use Rattle.network.proofs.Sets.{set-record, set-absent, set-none}
 use Rattle.format.specs.declared.Encoded.{Encoded}
-use Rattle.format.specs.Format.{accept, refuse, decodeOf, encodeOf, encodeRefusal, encodedBy, bytesAfter}
+use Rattle.format.specs.Format.{Bytes, accept, refuse, decodeOf, encodeOf, encodeRefusal, encodedBy, bytesAfter}
 use Rattle.format.proofs.Reading.{accepts, decode-plan, decode-answer}
 use Rattle.format.proofs.Writing.{encode-decode}
 use Rattle.writer.proofs.Encoding.{Answered as Written, encode-refused, encode-written}
@@ -32,6 +32,8 @@ use Rattle.connectivity.specs.declared.Verdict.{Verdict}
 use Rattle.connectivity.specs.declared.Verdict.the-variants.{NotCut, NotMinimal, Minimal, Refused}
 use Rattle.connectivity.specs.Answers.{relevantOf, verdictOf, Says, numbersOf}
 use Rattle.connectivity.proofs.Answers.{part-refused, part-accepted, verdict-refused, verdict-right}
+use Rattle.lengths.specs.Lengths.{totalOf}
+use Rattle.lengths.proofs.Totals.{total-refused, total-given}
 use Rattle.listing.specs.declared.Listed.{Listed}
 use Rattle.listing.specs.List.{mincuts, sourceSides, listedBy, cutRowsAfter, sideRowsAfter}
 use Rattle.listing.proofs.Refusals.{Case, faulty, unpaired, outnumbered, complete, call-case, refusal-none}
@@ -41,7 +43,7 @@ use Rattle.listing.proofs.Rows.{mincuts-count}
 use Rattle.text.specs.Text.{refusalLine, maxRows}
 use Rattle.report.specs.Report.{listReport, reportOf}
 use Rattle.report.proofs.Reports.{report-outnumbered, report-complete}
-use Rattle.demands.specs.Endings.{ReaderEnds, PartEnds, JudgingEnds, Kept, ListEnds, WriterEnds, ReportEnds}
+use Rattle.demands.specs.Endings.{ReaderEnds, PartEnds, JudgingEnds, TotalEnds, Kept, ListEnds, WriterEnds, ReportEnds}
 use Rattle.demands.specs.Demands.{DemandOne}
 
 -- A record without a fault keeps the rules.
@@ -58,14 +60,14 @@ some f = omega arith
 read : (N : Network) → Stored N → Rules N → decodeOf (encodeOf N) ≡ accept N
 read N stored r = encode-decode N stored (fault-rules N .1 r)
 
-reader : (s : List ℕ) → ReaderEnds s (decodeOf s)
-reader s = go (ℕ-discrete (decodeOf s .refusal) 0)
+reader : (s : List ℕ) → Bytes s → ReaderEnds s (decodeOf s)
+reader s given = go (ℕ-discrete (decodeOf s .refusal) 0)
   where
     go : Dec (decodeOf s .refusal ≡ 0) → ReaderEnds s (decodeOf s)
     go (yes e) =
         let N : Network = decodeOf s .network in
         let plan = decode-plan s N (accepts s e) in
-        subst (ReaderEnds s) (sym (accepts s e)) (ReaderEnds.read N (plan .stored) (rules N (plan .accepted)) (plan .bytes))
+        subst (ReaderEnds s) (sym (accepts s e)) (ReaderEnds.read N (plan .stored) (rules N (plan .accepted)) (plan .bytes given))
     go (no f) =
         let answer = decode-answer s in
         let outside : (N : Network) → Stored N → Rules N → encodeOf N ≡ s → ⊥ = λ N stored r e. f (ap (λ d. d .refusal) (rw e at (read N stored r))) in
@@ -105,6 +107,21 @@ judging N stored c = go (ℕ-discrete (faultOf N) 0) (ℕ-discrete (bitAnd c (pr
         let within : c ⊆ present N = subset-and c (present N) .1 e in
         let says : Says N c (verdictOf N c) = verdict-right N stored c in
         JudgingEnds.judged (verdictOf N c) (rules N ok) within (unrefused ok within (verdictOf N c) says) says
+
+-- ---- the total
+
+total : (N : Network) (c : ℕ) → TotalEnds N c (totalOf N c)
+total N c = go (ℕ-discrete (faultOf N) 0) (ℕ-discrete (bitAnd c (present N)) c)
+  where
+    go : Dec (faultOf N ≡ 0) → Dec (bitAnd c (present N) ≡ c) → TotalEnds N c (totalOf N c)
+    go (no f) d =
+        subst (TotalEnds N c) (total-refused N c (faultOf N) (sym (set-record N c (faultOf N) refl f)) f) (TotalEnds.faulty (some f))
+    go (yes ok) (no d) =
+        let out : c ⊆ present N → ⊥ = λ within. d (subset-and c (present N) .0 within) in
+        subst (TotalEnds N c) (total-refused N c 14 (sym (set-absent N c ok out)) (λ e. omega arith)) (TotalEnds.absent (rules N ok) out)
+    go (yes ok) (yes e) =
+        let within : c ⊆ present N = subset-and c (present N) .1 e in
+        subst (TotalEnds N c) (total-given N c 0 _ (sym (set-none N c ok within)) refl refl) (TotalEnds.total (rules N ok) within)
 
 -- ---- the list
 
@@ -191,6 +208,7 @@ demand-one = record {
   reader = reader;
   part = part;
   judging = judging;
+  total = total;
   list = list;
   too-many = λ N stored cuts sides. call-outnumbered N stored cuts sides refl;
   writer = λ N stored. writer N;

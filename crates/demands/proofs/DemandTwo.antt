@@ -9,7 +9,7 @@ use lib.ListN.{length, drop}
 use Rattle.network.specs.declared.Network.{Network}
 use Rattle.network.specs.Record.{Stored}
 use Rattle.network.proofs.Refusals.{none-then, none-when}
-use Rattle.format.specs.Format.{decodeOf, encodeOf, encodeRefusal, encodedBy, bytesAfter}
+use Rattle.format.specs.Format.{Bytes, decodeOf, encodeOf, encodeRefusal, encodedBy, bytesAfter}
 use Rattle.format.proofs.Reading.{accepts, decode-plan}
 use Rattle.writer.proofs.Encoding.{encode-written, reads-back}
 use Rattle.graph.specs.Lists.{CompleteList}
@@ -27,14 +27,14 @@ pub read-stored : (s : List ℕ) → decodeOf s .refusal ≡ 0 → Stored (decod
 read-stored s e = decode-plan s (decodeOf s .network) (accepts s e) .stored
 
 -- Accepted bytes are written again unchanged.
-writes-again : (s : List ℕ) → decodeOf s .refusal ≡ 0 → (lent : List ℕ) → length s ≤ length lent
+writes-again : (s : List ℕ) → Bytes s → decodeOf s .refusal ≡ 0 → (lent : List ℕ) → length s ≤ length lent
     → (encodedBy (decodeOf s .network) lent ≡ record { refusal = 0; count = length s })
     × (bytesAfter (decodeOf s .network) lent ≡ s ++ drop (length s) lent)
 unfolding encodeRefusal
-writes-again s e lent room =
+writes-again s given e lent room =
     let N : Network = decodeOf s .network in
     let plan = decode-plan s N (accepts s e) in
-    let same : encodeOf N ≡ s = plan .bytes in
+    let same : encodeOf N ≡ s = plan .bytes given in
     let fits : length (encodeOf N) ≤ length lent = rw same room in
     let left = encode-written N lent (length s) (s ++ drop (length s) lent) (none-then _ (plan .accepted) ∙ none-when 15 (le-ltb _ _ fits))
     (ap length (sym same)) (ap (λ (b : List ℕ). b ++ drop (length b) lent) (sym same)) in

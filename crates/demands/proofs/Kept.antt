@@ -19,7 +19,7 @@ use Rattle.network.specs.Record.{_then_, Stored, sizeFault, terminalFault, slot
 use Rattle.network.proofs.Refusals.{then-none, none-then, some-then, then-kept, some-when, none-when, size-none, refused-some}
 use Rattle.network.proofs.Rules.{none-size}
 use Rattle.format.specs.declared.Decoded.{Decoded}
-use Rattle.format.specs.Format.{at, missing, unfit, sizeRefusal, sizeStep, refuse, ifTaken, decodeUpTo, decodeOf, encodeOf}
+use Rattle.format.specs.Format.{at, missing, unfit, sizeRefusal, sizeStep, refuse, ifTaken, decodeUpTo, decodeOf}
 use Rattle.format.proofs.Steps.{SizeView, size, size-view}
 use Rattle.format.proofs.Reading.{accepts, decode-plan}
 use Rattle.graph.specs.Cuts.{RelevantNode}
@@ -82,12 +82,12 @@ module _ (before : ℕ) (narrower : before ≤ nodeWidth) where
           absurd (omega arith)
 
   read : (s : List ℕ) → decodeUpTo before s .refusal ≡ 0 → Stored (decodeOf s .network) × (faultUpTo before (decodeOf s .network) ≡ 0)
-  unfolding faultUpTo encodeOf
+  unfolding faultUpTo
   read s e =
       let ok : decodeOf s .refusal ≡ 0 = ap (λ (d : Decoded). d .refusal) (plans s (λ four. omega arith)) ∙ e in
       let N : Network = decodeOf s .network in
       let plan = decode-plan s N (accepts s ok) in
-      let fit : sizeFault before (N .nodes) ≡ 0 = ap (λ b. sizeFault before (at b 1)) (plan .bytes) ∙ size-read s e in
+      let fit : sizeFault before (N .nodes) ≡ 0 = ap (sizeFault before) (plan .points) ∙ size-read s e in
       (plan .stored, none-then _ fit ∙ then-none (sizeFault nodeWidth (N .nodes)) _ (plan .accepted) .1)
 
   -- ---- lists

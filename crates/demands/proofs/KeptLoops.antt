@@ -4,7 +4,7 @@ use mathlib.Core.Bool.{Bool, true, false, cond}
 use mathlib.Core.List.{List, [], _∷_, map, foldr}
 use mathlib.Core.Logic.{_⊎_, inl, inr, _↔_}
 use mathlib.Core.Path.{_≡_, refl, sym, ap, subst, _∙_}
-use Prim.Native.Nat.{ℕ, zero, suc, _<_, zero-le}
+use Prim.Native.Nat.{ℕ, zero, suc, _+_, _*_, _<_, zero-le}
 use native.Mathlib.Omega.{arith}
 use denote.Floats.{is-true}
 use borrow.Author.Tests.{eqb-true, eqb-false}
@@ -13,18 +13,19 @@ use lib.ListN.{length, drop}
 use Rattle.bitset.proofs.Members.{has-zero}
 use Rattle.bitset.proofs.Sets.{member-lt}
 use Rattle.network.specs.declared.Network.{Network}
-use Rattle.network.specs.Record.{_then_, unlessRefused, sizeFault, terminalFault, endFault, absentFault, slots, Slot, slot, hasEdge, firstEnd, secondEnd, slotFault, slotsFault, faultUpTo, bare, withEdge, present, Stored}
+use Rattle.network.specs.Record.{_then_, unlessRefused, sizeFault, terminalFault, endFault, absentFault, slots, Slot, hasEdge, firstEnd, secondEnd, metresOf, slotFault, slotsFault, faultUpTo, bare, withEdge, present, Stored}
 use Rattle.network.specs.Ends.{Loop, Loopless}
 use Rattle.network.proofs.Refusals.{then-none, some-then, then-kept, when-none, none-when, some-when, refused-some}
-use Rattle.network.proofs.Slots.{row-none, withEdge-same, withEdge-stored, withEdge-slots}
+use Rattle.network.proofs.Slots.{row-none, withEdge-stored, withEdge-slots}
 use Rattle.format.specs.declared.Decoded.{Decoded}
 use Rattle.format.specs.declared.Step.{Step}
-use Rattle.format.specs.Format.{at, sizeStep, terminalsStep, edgeStep, told, accept, refuse, ifTaken, edges, decodeUpTo}
-use Rattle.format.proofs.Steps.{EdgeView, edge, end, edge-view}
-use Rattle.format.proofs.Walk.{edges-edge, edges-end, edges-refused}
-use Rattle.format.proofs.Reading.{edges-keep, bare-stored}
+use Rattle.format.specs.Format.{edgeStep, lengthStep, lengthSize, accept, refuse, ifTaken, edges, decodeUpTo}
+use Rattle.format.proofs.Steps.{EdgeView, edge, end, edge-view, LengthView, measured, unmeasured, length-view}
+use Rattle.format.proofs.Walk.{edges-edge, edges-length-refused, edges-end, edges-refused}
+use Rattle.format.proofs.Reading.{edge-kept, bare-stored}
 use Rattle.graph.proofs.Lists.{complete-unique}
-use Rattle.demands.specs.Kept.{loopFault, slotWithTen, faultWithTen, edgesWithTen, decodeWithTen, LoopsKept}
+use Rattle.demands.specs.Kept.{testBy, loopFault, slotWithTen, faultWithTen, edgesWithTen, decodeWithTen, LoopsKept}
+use Rattle.demands.proofs.Lifted.{Lifted, lifted, lifted-by, refused-same, accepted-same, decode-lifted, lifted-plans, lifted-read, test-same}
 
 -- ---- records
 
@@ -47,7 +48,7 @@ module _ (N : Network) where
   slot-cases k =
       let a : ℕ = firstEnd N k in
       let b : ℕ = secondEnd N k in
-      elim (slot-ten (hasEdge N k) (endFault (N .nodes) a b) (absentFault a b) a b) [ inl e ↦ inl e | inr c ↦ inr ((c .0, c .1, refl), c .2) ]
+      elim (slot-ten (hasEdge N k) (endFault (N .nodes) a b) (absentFault a b (metresOf N k)) a b) [ inl e ↦ inl e | inr c ↦ inr ((c .0, c .1, refl), c .2) ]
 
   -- A loop's slot had a fault.
   loop-refused : (k v : ℕ) → Loop N k v → slotWithTen N k ≡ 0 → ⊥
@@ -71,25 +72,19 @@ row-kept f g cases (k ∷ l) n =
 
 -- So is that of the record.
 faults : (most : ℕ) (N : Network) → (faultWithTen most N ≡ 10 → ⊥) → faultUpTo most N ≡ faultWithTen most N
-unfolding faultUpTo slotsFault faultWithTen
+unfolding faultUpTo slotsFault testBy
 faults most N =
     then-kept 10 (sizeFault most (N .nodes)) (then-kept 10 (terminalFault (N .nodes) (N .source) (N .sink))
     (row-kept (slotFault N) (slotWithTen N) (λ k. elim (slot-cases N k) [ inl e ↦ inl e | inr c ↦ inr (c .1) ]) slots))
 
 -- Without loops each slot's fault is the one that it was.
 loopless : (most : ℕ) (N : Network) → Loopless N → faultUpTo most N ≡ faultWithTen most N
-unfolding faultUpTo slotsFault faultWithTen
 loopless most N none =
-    let same : (k : ℕ) → slotFault N k ≡ slotWithTen N k = λ k.
-    elim (slot-cases N k) [ inl e ↦ sym e | inr c ↦ absurd (none k (secondEnd N k) (c .0)) ] in
-    λ i.
-    sizeFault most (N .nodes)
-    then terminalFault (N .nodes) (N .source) (N .sink)
-    then foldr _then_ 0 (map (λ (k : ℕ). same k i) slots)
+    test-same slotWithTen most N (λ k l. elim (slot-cases N k) [ inl e ↦ sym e | inr c ↦ absurd (none k (secondEnd N k) (c .0)) ])
 
 -- An accepted record had no loop, since no slot had a fault.
 accepted : (most : ℕ) (N : Network) → Stored N → (faultWithTen most N ≡ 0) ↔ ((faultUpTo most N ≡ 0) × Loopless N)
-unfolding faultWithTen
+unfolding testBy
 accepted most N stored = (
   λ e.
       let fit = then-none (sizeFault most (N .nodes)) _ e .1 in
@@ -102,35 +97,19 @@ accepted most N stored = (
 
 -- ---- plans in bytes
 
--- The answer t with the rule 10 beside the answer d without it: the same, and then a record that was accepted has no loop; or 10, and then
--- one that is accepted has a loop.
-data Ten (t d : Decoded) : Type 0 where
-  same : t ≡ d → (d .refusal ≡ 0 → Loopless (d .network)) → Ten t d
-  lifted : t .refusal ≡ 10 → (d .refusal ≡ 0 → Loopless (d .network) → ⊥) → Ten t d
-
--- Both answers by other names.
-ten-by : {t t′ d d′ : Decoded} → t ≡ t′ → d ≡ d′ → Ten t′ d′ → Ten t d
-ten-by {t} {t′} {d} {d′} e f w = subst (λ (x : Decoded). Ten x d) (sym e) (subst (Ten t′) (sym f) w)
-
--- A refusal by another rule is the same.
-refused-ten : (r : ℕ) → 0 < r → Ten (refuse r) (refuse r)
-refused-ten r p = same refl (λ e. absurd (let bad : r ≡ 0 = e in omega arith))
-
--- A command before, whatever it answers, changes nothing in that.
-taken-ten : (t : Step) (f g : List ℕ → Decoded) → ((v : List ℕ) → Ten (f v) (g v)) → Ten (ifTaken t f) (ifTaken t g)
-unfolding ifTaken
-taken-ten t f g on = go (told t .number)
-  where
-    go : (r : ℕ) → Ten (unlessRefused r (f (told t .values)) (refuse r)) (unlessRefused r (g (told t .values)) (refuse r))
-    go zero = on (told t .values)
-    go (suc r) = refused-ten (suc r) (omega arith)
-
 -- A turn of the walk with the rule 10.
 module _ (turns : ℕ) (N : Network) (next : ℕ) (s : List ℕ) where
-  ten-edge : {k a b : ℕ} → edgeStep (N .nodes) next s ≡ Step.Edge k a b
-      → edgesWithTen (suc turns) N next s ≡ unlessRefused (loopFault a b) (edgesWithTen turns (withEdge N k a b) (suc k) (drop 4 s)) (refuse 10)
+  ten-edge : {k a b m : ℕ} → edgeStep (N .nodes) next s ≡ Step.Edge k a b → lengthStep k (drop 4 s) ≡ Step.Length m
+      → edgesWithTen (suc turns) N next s
+      ≡ unlessRefused (loopFault a b) (edgesWithTen turns (withEdge N k a b m) (suc k) (drop (lengthSize m) (drop 4 s))) (refuse 10)
   unfolding edgesWithTen ifTaken
-  ten-edge e = rw e
+  ten-edge e f = rw (e, f)
+
+  ten-length-refused : {k a b r : ℕ} → edgeStep (N .nodes) next s ≡ Step.Edge k a b → lengthStep k (drop 4 s) ≡ Step.Refused r → 0 < r
+      → edgesWithTen (suc turns) N next s ≡ unlessRefused (loopFault a b) (refuse r) (refuse 10)
+  unfolding edgesWithTen ifTaken
+  ten-length-refused {a = a} {b} {r} e f p =
+      rw (e, f) (ap (λ d. unlessRefused (loopFault a b) d (refuse 10)) (refused-some r _ (refuse r) (λ z. omega arith)))
 
   ten-end : edgeStep (N .nodes) next s ≡ Step.End → edgesWithTen (suc turns) N next s ≡ accept N
   unfolding edgesWithTen ifTaken
@@ -145,52 +124,51 @@ abbrev LoopSlot : ℕ → Slot → Type 0
 LoopSlot v x = T (x .0) × (x .1 ≡ v) × (x .2 ≡ v)
 
 -- An edge between two points makes no loop.
-withEdge-loopless : (N : Network) → Stored N → (k a b : ℕ) → k < 64 → (a ≡ b → ⊥) → Loopless N → Loopless (withEdge N k a b)
-withEdge-loopless N stored k a b l differ none =
-    withEdge-slots N stored k a b l (λ j s. (v : ℕ) → LoopSlot v s → ⊥) (λ v loop. differ (loop .1 ∙ sym (loop .2))) (λ j d. none j)
+withEdge-loopless : (N : Network) → Stored N → (k a b m : ℕ) → k < 64 → (a ≡ b → ⊥) → Loopless N → Loopless (withEdge N k a b m)
+withEdge-loopless N stored k a b m l differ none =
+    withEdge-slots N stored k a b m l (λ j s. (v : ℕ) → LoopSlot v s → ⊥) (λ v loop. differ (loop .1 ∙ sym (loop .2))) (λ j d. none j)
 
-module _ (turns : ℕ) (N : Network) (stored : Stored N) (k a b : ℕ) (s : List ℕ) (l : k < 64) where
-  -- What is read on after an edge's command, with the rule and without.
-  abbrev before : Decoded
-  before = edgesWithTen turns (withEdge N k a b) (suc k) s
-
-  abbrev now : Decoded
-  now = edges turns (withEdge N k a b) (suc k) s
-
-  -- A record that is accepted has the edge.
-  edge-kept : now .refusal ≡ 0 → slot (now .network) k ≡ (true, a, b)
-  edge-kept ok =
-      edges-keep turns (withEdge N k a b) (now .network) (suc k) s (withEdge-stored N stored k a b l)
-      (λ i. record { refusal = ok i; network = now .network }) k (omega arith)
-      ∙ withEdge-same N stored k a b l
-
-  -- The command was refused if its ends are one point.
-  edge-ten : ((a ≡ b → ⊥) → Ten before now) → Ten (unlessRefused (loopFault a b) before (refuse 10)) now
-  unfolding loopFault
-  edge-ten on = go (eqb a b) refl
-    where
-      go : (t : Bool) → eqb a b ≡ t → Ten (unlessRefused (loopFault a b) before (refuse 10)) now
-      go true e =
-          lifted (ap (λ r. unlessRefused r before (refuse 10) .refusal) (some-when 10 e))
-          (λ ok none. none k b (subst (LoopSlot b) (sym (edge-kept ok)) (tt, eqb-true a b e, refl)))
-      go false e = ten-by (ap (λ r. unlessRefused r before (refuse 10)) (none-when 10 e)) refl (on (eqb-false a b e))
+-- An edge's command was refused if its ends are one point; and one that is accepted then has the loop.
+edge-ten : (a b : ℕ) (before now : Decoded) → ((a ≡ b → ⊥) → Lifted 10 Loopless before now) → (a ≡ b → now .refusal ≡ 0 → Loopless (now .network) → ⊥)
+    → Lifted 10 Loopless (unlessRefused (loopFault a b) before (refuse 10)) now
+unfolding loopFault
+edge-ten a b before now on loop = go (eqb a b) refl
+  where
+    go : (t : Bool) → eqb a b ≡ t → Lifted 10 Loopless (unlessRefused (loopFault a b) before (refuse 10)) now
+    go true e = lifted (ap (λ r. unlessRefused r before (refuse 10) .refusal) (some-when 10 e)) (loop (eqb-true a b e))
+    go false e = lifted-by (ap (λ r. unlessRefused r before (refuse 10)) (none-when 10 e)) refl (on (eqb-false a b e))
 
 -- The walk.
-walk-ten : (turns : ℕ) (N : Network) (next : ℕ) (s : List ℕ) → Stored N → Loopless N → Ten (edgesWithTen turns N next s) (edges turns N next s)
+walk-ten : (turns : ℕ) (N : Network) (next : ℕ) (s : List ℕ) → Stored N → Loopless N
+    → Lifted 10 Loopless (edgesWithTen turns N next s) (edges turns N next s)
 unfolding edgesWithTen edges
-walk-ten zero N next s stored none = refused-ten 1 (omega arith)
+walk-ten zero N next s stored none = refused-same 1 (omega arith)
 walk-ten (suc turns) N next s stored none =
-    go (λ k a b l differ.
-    walk-ten turns (withEdge N k a b) (suc k) (drop 4 s) (withEdge-stored N stored k a b l) (withEdge-loopless N stored k a b l differ none))
+    go (λ k a b m l differ.
+    walk-ten turns (withEdge N k a b m) (suc k) (drop (lengthSize m) (drop 4 s)) (withEdge-stored N stored k a b m l)
+    (withEdge-loopless N stored k a b m l differ none))
     (edge-view (N .nodes) next s)
   where
-    go : ((k a b : ℕ) → k < 64 → (a ≡ b → ⊥)
-        → Ten (edgesWithTen turns (withEdge N k a b) (suc k) (drop 4 s)) (edges turns (withEdge N k a b) (suc k) (drop 4 s)))
-        → EdgeView (N .nodes) next s → Ten (edgesWithTen (suc turns) N next s) (edges (suc turns) N next s)
-    go later (edge k a b rest step p h l f) =
-        ten-by (ten-edge turns N next s step) (edges-edge turns N next s step) (edge-ten turns N stored k a b (drop 4 s) l (later k a b l))
-    go later (end step p) = ten-by (ten-end turns N next s step) (edges-end turns N next s step) (same refl (λ e. none))
-    go later (EdgeView.refused r step p b) = ten-by (ten-refused turns N next s step p) (edges-refused turns N next s step p) (refused-ten r p)
+    go : ((k a b m : ℕ) → k < 64 → (a ≡ b → ⊥)
+        → Lifted 10 Loopless (edgesWithTen turns (withEdge N k a b m) (suc k) (drop (lengthSize m) (drop 4 s)))
+        (edges turns (withEdge N k a b m) (suc k) (drop (lengthSize m) (drop 4 s))))
+        → EdgeView (N .nodes) next s → Lifted 10 Loopless (edgesWithTen (suc turns) N next s) (edges (suc turns) N next s)
+    go later (edge k a b rest step p h l f) = after (length-view k (drop 4 s))
+      where
+        on : (m : ℕ) → lengthStep k (drop 4 s) ≡ Step.Length m → Lifted 10 Loopless (edgesWithTen (suc turns) N next s) (edges (suc turns) N next s)
+        on m step′ =
+            lifted-by (ten-edge turns N next s step step′) (edges-edge turns N next s step step′) (edge-ten a b _ _ (later k a b m l)
+            (λ one ok loops.
+            loops k b (subst (LoopSlot b) (sym (edge-kept turns N stored k a b m (drop (lengthSize m) (drop 4 s)) l ok)) (tt, one, refl))))
+
+        after : LengthView k (drop 4 s) → Lifted 10 Loopless (edgesWithTen (suc turns) N next s) (edges (suc turns) N next s)
+        after (measured high low rest′ step′ p′ some) = on (high * 256 + low) step′
+        after (unmeasured step′ none′) = on 0 step′
+        after (LengthView.refused r step′ q c d) =
+            lifted-by (ten-length-refused turns N next s step step′ q) (edges-length-refused turns N next s step step′ q)
+            (edge-ten a b (refuse r) (refuse r) (λ differ. refused-same r q) (λ one ok. absurd (let bad : r ≡ 0 = ok in omega arith)))
+    go later (end step p) = lifted-by (ten-end turns N next s step) (edges-end turns N next s step) (accepted-same N none)
+    go later (EdgeView.refused r step p b) = lifted-by (ten-refused turns N next s step p) (edges-refused turns N next s step p) (refused-same r p)
 
 -- A network without edges has no loop.
 bare-loopless : (n s t : ℕ) → Loopless (bare n s t)
@@ -198,32 +176,17 @@ unfolding bare
 bare-loopless n s t k v loop = rw (has-zero k) at (loop .0)
 
 -- The reader.
-decode-ten : (most : ℕ) (s : List ℕ) → Ten (decodeWithTen most s) (decodeUpTo most s)
-unfolding decodeWithTen decodeUpTo
-decode-ten most s =
-    taken-ten (sizeStep most s) _ _ (λ size. taken-ten (terminalsStep (at size 0) (drop 2 s)) _ _ (λ v.
-    walk-ten (length (drop 5 s)) (bare (at size 0) (at v 0) (at v 1)) 0 (drop 5 s)
-    (bare-stored (at size 0) (at v 0) (at v 1)) (bare-loopless (at size 0) (at v 0) (at v 1))))
-
-plans : (most : ℕ) (s : List ℕ) → (decodeWithTen most s .refusal ≡ 10 → ⊥) → decodeUpTo most s ≡ decodeWithTen most s
-plans most s n = elim (decode-ten most s) [ same e q ↦ sym e | lifted e q ↦ absurd (n e) ]
-
-read : (most : ℕ) (s : List ℕ)
-    → (decodeWithTen most s .refusal ≡ 0) ↔ ((decodeUpTo most s .refusal ≡ 0) × Loopless (decodeUpTo most s .network))
-read most s = elim (decode-ten most s) [
-  | same e q ↦
-      let number = ap (λ (d : Decoded). d .refusal) e in
-      (λ z. let ok = sym number ∙ z in (ok, q ok), λ k. number ∙ k .0)
-  | lifted e q ↦ (λ z. absurd (omega arith), λ k. absurd (q (k .0) (k .1)))
-]
+decode-ten : (most : ℕ) (s : List ℕ) → Lifted 10 Loopless (decodeWithTen most s) (decodeUpTo most s)
+decode-ten =
+    decode-lifted (λ N s. edgesWithTen (length s) N 0 s) (λ n a b s. walk-ten (length s) (bare n a b) 0 s (bare-stored n a b) (bare-loopless n a b))
 
 -- Whatever the limit of points is.
 pub loops-kept : (most : ℕ) → LoopsKept most
 loops-kept most = record {
   faults = faults most;
-  plans = plans most;
+  plans = λ s. lifted-plans (decode-ten most s);
   loopless = loopless most;
   accepted = accepted most;
-  read = read most;
+  read = λ s. lifted-read (omega arith) (decode-ten most s);
   lists = complete-unique;
 }

@@ -1,9 +1,13 @@
--- The demands, loops, what earlier plans keep, then the halls.
+-- The demands, loops and metres, what earlier plans keep, then the halls.
 pub mod DemandOne
 pub mod DemandTwo
 pub mod DemandThree
+pub mod Alike
 pub mod Loops
+pub mod Lengths
 pub mod Kept
+pub mod Lifted
 pub mod KeptLoops
+pub mod KeptLengths
 pub mod Halls
 pub mod Routes

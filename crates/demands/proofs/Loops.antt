@@ -1,6 +1,6 @@
 -- Loops: they lie on no route and in no minimal cut, to add one changes no list, and none is refused.
 -- Assumes what the code's types say of the records.
-use mathlib.Core.Path.{_≡_, refl, sym, ap, ap₂, subst, _∙_}
+use mathlib.Core.Path.{_≡_, refl, sym, ap, subst, _∙_}
 use mathlib.Core.Bool.{Bool, true, false, not}
 use mathlib.Core.List.{List}
 use mathlib.Core.Logic.{_⊎_, inl, inr, _↔_, Iff·rfl}
@@ -9,14 +9,15 @@ use native.Mathlib.Omega.{arith}
 use lib.Dec.{T, ltb, eqb}
 use lib.ListN.{length, getD}
 use Rattle.sequences.specs.Words.{every}
+use Rattle.sequences.proofs.Tests.{T-not, T-eqb}
 use Rattle.bitset.specs.Members.{_∈_}
-use Rattle.bitset.proofs.Subsets.{⊆-trans, ⊆-insert}
+use Rattle.bitset.proofs.Subsets.{⊆-insert}
 use Rattle.network.specs.declared.Network.{Network}
 use Rattle.network.specs.Record.{_when_, among, unlessRefused, Stored, Slot, faultOf, setFault, withEdge, present}
 use Rattle.network.specs.Ends.{Loop}
-use Rattle.network.proofs.Refusals.{then-other, when-other, among-lt}
+use Rattle.network.proofs.Refusals.{then-other, when-other, among-every}
 use Rattle.network.proofs.Rules.{none-outside}
-use Rattle.network.proofs.Slots.{Accepted, accepted, accepted-none, withEdge-stored, withEdge-slots, withEdge-faultless}
+use Rattle.network.proofs.Slots.{Faultless, accepted, accepted-none, withEdge-stored, withEdge-slots, withEdge-faultless}
 use Rattle.network.proofs.Numbers.{not-fault}
 use Rattle.network.proofs.Ends.{loop-ends}
 use Rattle.format.specs.Format.{readerRefusals, decodeOf, encodeRefusal, encodedBy}
@@ -28,13 +29,12 @@ use Rattle.graph.proofs.Agree.{Agree}
 use Rattle.connectivity.specs.declared.Verdict.the-variants.{Refused}
 use Rattle.connectivity.specs.Answers.{relevantOf, verdictOf, Says}
 use Rattle.connectivity.proofs.Answers.{part-refusal, verdict-right}
-use Rattle.connectivity.proofs.Agree.{part-agrees, verdict-agrees}
+use Rattle.lengths.specs.Lengths.{totalOf}
 use Rattle.listing.specs.List.{mincuts, sourceSides, listRefusal, listedBy}
-use Rattle.listing.proofs.Agree.{mincuts-agree, sourceSides-agree, call-agrees}
 use Rattle.text.specs.Text.{digits, decimal, wordLine, refusalLine, listText, maxRows}
-use Rattle.text.proofs.Decimal.{decimal-small}
 use Rattle.report.specs.Report.{listReport, reportOf}
 use Rattle.demands.specs.Loops.{LoopsApart, AsWithout, LoopAdded, TenGone}
+use Rattle.demands.proofs.Alike.{alike}
 
 -- ---- apart from routes and cuts
 
@@ -58,24 +58,24 @@ abbrev JoinsBy : Slot → ℕ → ℕ → Type 0
 JoinsBy s x y = T (s .0) × (((s .1 ≡ x) × (s .2 ≡ y)) ⊎ ((s .1 ≡ y) × (s .2 ≡ x)))
 
 -- One that holds a loop joins no two different points.
-one-point : (v x y : ℕ) → JoinsBy (true, v, v) x y → x ≡ y
-one-point v x y j = elim (j .1) [ inl p ↦ sym (p .0) ∙ p .1 | inr p ↦ sym (p .1) ∙ p .0 ]
+one-point : (v x y m : ℕ) → JoinsBy (true, v, v, m) x y → x ≡ y
+one-point v x y m j = elim (j .1) [ inl p ↦ sym (p .0) ∙ p .1 | inr p ↦ sym (p .1) ∙ p .0 ]
 
-module _ (N : Network) (stored : Stored N) (ok : faultOf N ≡ 0) (k v : ℕ) (l : k < 64) (absent : k ∈ present N → ⊥) (point : v < N .nodes) where
+module _ (N : Network) (stored : Stored N) (ok : faultOf N ≡ 0) (k v m : ℕ) (l : k < 64) (absent : k ∈ present N → ⊥) (point : v < N .nodes) where
   abbrev M : Network
-  M = withEdge N k v v
+  M = withEdge N k v v m
 
   stored′ : Stored M
-  stored′ = withEdge-stored N stored k v v l
+  stored′ = withEdge-stored N stored k v v m l
 
   ok′ : faultOf M ≡ 0
   unfolding withEdge
   ok′ =
-      let rules : Accepted N = accepted N ok in
+      let rules : Faultless N = accepted N ok in
       accepted-none M (record {
         size = rules .size;
         terminals = rules .terminals;
-        slot-none = withEdge-faultless N stored k v v l (none-outside 9 (N .nodes) v v point point) (rules .slot-none);
+        slot-none = withEdge-faultless N stored k v v m l (none-outside 9 (N .nodes) v v point point) (rules .slot-none);
       })
 
   -- Between different points it joins nothing, and the other slots hold what they held.
@@ -84,25 +84,16 @@ module _ (N : Network) (stored : Stored N) (ok : faultOf N ≡ 0) (k v : ℕ) (l
   agree = record {
     source = refl;
     sink = refl;
-    joins = λ e x y ne. withEdge-slots N stored k v v l (λ e s. JoinsBy s x y ↔ Joins N e x y)
-        (λ j. absurd (ne (one-point v x y j)), λ j. absurd (absent (j .0))) (λ e d. Iff·rfl) e;
+    joins = λ e x y ne. withEdge-slots N stored k v v m l (λ e s. JoinsBy s x y ↔ Joins N e x y)
+        (λ j. absurd (ne (one-point v x y m j)), λ j. absurd (absent (j .0))) (λ e d. Iff·rfl) e;
   }
 
-  report-agrees : listReport M ≡ listReport N
-  unfolding listReport
-  report-agrees =
-      ap₂ (λ (l k : List ℕ). elim (ltb maxRows (length l)) [ true ↦ refusalLine 12 | false ↦ listText l k ])
-      (mincuts-agree M N stored′ stored ok′ ok agree) (sourceSides-agree M N stored′ stored ok′ ok agree)
-
-  as-without : AsWithout N k v
-  unfolding withEdge reportOf
+  as-without : AsWithout N k v m
+  unfolding withEdge
   as-without = record {
     accepted = ok′;
     read = encode-decode M stored′ ok′;
-    part = part-agrees M N stored′ stored ok′ ok agree;
-    verdicts = λ c within. verdict-agrees M N stored′ stored ok′ ok agree c (⊆-trans c (present N) (present M) within (⊆-insert (present N) k)) within;
-    list = call-agrees M N stored′ stored ok′ ok agree;
-    printed = rw (encode-decode M stored′ ok′, encode-decode N stored ok) report-agrees;
+    answers = alike M N stored′ stored ok′ ok agree (⊆-insert (present N) k);
   }
 
 pub loop-added : LoopAdded
@@ -114,19 +105,25 @@ test : (N : Network) → faultOf N ≡ 10 → ⊥
 unfolding among
 test N = not-fault N 10 (λ t. t)
 
-judging : (N : Network) → Stored N → (c : ℕ) → verdictOf N c ≡ Refused 10 → ⊥
+-- Nor does a call on a set of cables.
+set : (N : Network) (c : ℕ) → setFault N c ≡ 10 → ⊥
 unfolding setFault
-judging N stored c e =
-    let said : Says N c (Refused 10) = subst (Says N c) e (verdict-right N stored c) in
-    then-other (faultOf N) (test N) (when-other 14 _ (λ e. omega arith) (omega arith)) (said .0)
+set N c = then-other (faultOf N) (test N) (when-other 14 _ (λ e. omega arith) (omega arith))
 
--- The line of a number of one digit is another: its tenth byte ends it.
-one-digit : (r : ℕ) → r < 10 → refusalLine r ≡ refusalLine 10 → ⊥
+judging : (N : Network) → Stored N → (c : ℕ) → verdictOf N c ≡ Refused 10 → ⊥
+judging N stored c e = let said : Says N c (Refused 10) = subst (Says N c) e (verdict-right N stored c) in set N c (said .0)
+
+-- The lines of the reader's refusals are others: the tenth byte of each is another than that of 10, which is its second digit.
+other-lines : T (every (λ r. not (eqb (getD (refusalLine r) 9 0) 48)) readerRefusals)
+unfolding every wordLine decimal digits
+other-lines = tt
+
+other-line : (r : ℕ) → 0 < r → T (among readerRefusals r) → refusalLine r ≡ refusalLine 10 → ⊥
 unfolding wordLine decimal digits
-one-digit r h e =
-    let last : getD (refusalLine r) 9 0 ≡ 10 = rw (decimal-small r h) in
-    let other : getD (refusalLine 10) 9 0 ≡ 48 = refl in
-    omega (arith, ap (λ (l : List ℕ). getD l 9 0) e)
+other-line r p a e =
+    let tenth : getD (refusalLine r) 9 0 ≡ 48 = ap (λ (l : List ℕ). getD l 9 0) e in
+    T-not (eqb (getD (refusalLine r) 9 0) 48) .0 (among-every (λ r. not (eqb (getD (refusalLine r) 9 0) 48)) readerRefusals other-lines r p a)
+    (T-eqb (getD (refusalLine r) 9 0) 48 .1 tenth)
 
 -- So is the line of 12, and so is a list.
 no-list : (N : Network) → listReport N ≡ refusalLine 10 → ⊥
@@ -139,20 +136,21 @@ no-list N e = go (ltb maxRows (length (mincuts N))) e
 
 -- The program prints the reader's refusal, 12 or a list.
 program : (s : List ℕ) → reportOf s ≡ refusalLine 10 → ⊥
-unfolding reportOf every
+unfolding reportOf
 program s e = go (decodeOf s .refusal) (decode-answer s .number) e
   where
     go : (r : ℕ) → T (among readerRefusals r) → unlessRefused r (listReport (decodeOf s .network)) (refusalLine r) ≡ refusalLine 10 → ⊥
     go zero a p = no-list (decodeOf s .network) p
-    go (suc r) a p = one-digit (suc r) (among-lt 10 readerRefusals (omega arith) tt (suc r) a) p
+    go (suc r) a p = other-line (suc r) (omega arith) a p
 
 pub ten-gone : TenGone
-unfolding among listedBy listRefusal encodedBy encodeRefusal
+unfolding among totalOf listedBy listRefusal encodedBy encodeRefusal
 ten-gone = record {
   reader = λ s e. rw e at (decode-answer s .number);
   test = test;
   part = λ N e. test N (sym (part-refusal N (relevantOf N) refl) ∙ e);
   judging = judging;
+  total = set;
   list = λ N cuts sides. then-other (faultOf N) (test N) (then-other (11 when not (eqb (length cuts) (length sides)))
       (when-other 11 _ (λ e. omega arith) (omega arith)) (when-other 12 _ (λ e. omega arith) (omega arith)));
   writer = λ N lent. then-other (faultOf N) (test N) (when-other 15 _ (λ e. omega arith) (omega arith));

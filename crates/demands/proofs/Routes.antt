@@ -9,7 +9,7 @@ use lib.ListN.{getD}
 use Rattle.sequences.specs.Distinct.{Distinct}
 use Rattle.bitset.specs.Members.{has, insert, _∖_, membersFrom}
 use Rattle.network.specs.Record.{_when_, _then_, sizeFault, outsideFault, bare, withEdge}
-use Rattle.format.specs.Format.{numberFault, sizeRefusal, terminalsRefusal, edgeRefusal, endRefusal, sizeStep, terminalsStep, edgeStep, ifTaken, edges, decodeUpTo}
+use Rattle.format.specs.Format.{numberFault, sizeRefusal, terminalsRefusal, edgeRefusal, endRefusal, sizeStep, terminalsStep, edgeStep, lengthStep, lengthSize, ifTaken, edges, decodeUpTo}
 use Rattle.graph.specs.Paths.{Joins, Leads, edgesOf, Minpath}
 use Rattle.graph.specs.Cuts.{Mincut}
 use Rattle.graph.specs.Lists.{CompleteList}
@@ -22,7 +22,7 @@ later differs absent m = elim (List·Memᴰ·cases-cons m) [ inl e ↦ differs e
 
 -- The two cables are a route.
 route : Minpath (networkOf inARow) 3
-unfolding Distinct has insert _∖_ membersFrom _when_ _then_ sizeFault outsideFault bare withEdge numberFault sizeRefusal terminalsRefusal edgeRefusal endRefusal sizeStep terminalsStep edgeStep ifTaken edges decodeUpTo Joins Leads edgesOf inARow
+unfolding Distinct has insert _∖_ membersFrom _when_ _then_ sizeFault outsideFault bare withEdge numberFault sizeRefusal terminalsRefusal edgeRefusal endRefusal sizeStep terminalsStep edgeStep lengthStep lengthSize ifTaken edges decodeUpTo Joins Leads edgesOf inARow
 route = record {
   steps = record { edge = 0; to = 1 } ∷ record { edge = 1; to = 2 } ∷ [];
   leads = ((tt, inl (refl, refl)), ((tt, inl (refl, refl)), refl));

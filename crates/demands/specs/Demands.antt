@@ -1,6 +1,7 @@
 -- The customer's three demands, as statements about the calls. What a call answers and leaves is what its contract says: `decodeOf`,
--- `faultOf`, `relevantOf`, `verdictOf`, `listedBy` with the rows afterwards, `encodedBy` with the bytes afterwards, and
--- `reportOf` of the program. `Stored N`, what the types of the code say of any record, is in the contract of every call that takes one.
+-- `faultOf`, `relevantOf`, `verdictOf`, `totalOf`, `listedBy` with the rows afterwards, `encodedBy` with the bytes afterwards, and
+-- `reportOf` of the program. What the types of the code say of any record, `Stored N`, is in the contract of every call that takes one, and
+-- what they say of any bytes, `Bytes s`, in that of the reader.
 -- To believe.
 --
 --   DemandOne        every call ends with the complete result or with the refusal that its own condition calls for
@@ -14,22 +15,24 @@ use lib.ListN.{length, take, drop}
 use Rattle.network.specs.declared.Network.{Network}
 use Rattle.network.specs.Record.{Stored, faultOf}
 use Rattle.network.specs.Rules.{Rules}
-use Rattle.format.specs.Format.{accept, decodeOf, encodeOf, encodedBy, bytesAfter}
+use Rattle.format.specs.Format.{Bytes, accept, decodeOf, encodeOf, encodedBy, bytesAfter}
 use Rattle.graph.specs.Paths.{SameMinpaths}
 use Rattle.graph.specs.Lists.{CompleteList, SameList, Outnumber}
 use Rattle.connectivity.specs.Answers.{relevantOf, verdictOf}
+use Rattle.lengths.specs.Lengths.{totalOf}
 use Rattle.listing.specs.List.{listedBy, cutRowsAfter, sideRowsAfter}
 use Rattle.report.specs.Report.{reportOf}
-use Rattle.demands.specs.Endings.{ReaderEnds, PartEnds, JudgingEnds, ListEnds, WriterEnds, ReportEnds}
+use Rattle.demands.specs.Endings.{ReaderEnds, PartEnds, JudgingEnds, TotalEnds, ListEnds, WriterEnds, ReportEnds}
 
 pub record DemandOne : Type 0 where
   -- The record test finds no fault exactly if the record keeps the rules.
   pub test : (N : Network) → (faultOf N ≡ 0) ↔ Rules N
   -- A plan within the rules is read.
   pub read : (N : Network) → Stored N → Rules N → decodeOf (encodeOf N) ≡ accept N
-  pub reader : (s : List ℕ) → ReaderEnds s (decodeOf s)
+  pub reader : (s : List ℕ) → Bytes s → ReaderEnds s (decodeOf s)
   pub part : (N : Network) → Stored N → PartEnds N (relevantOf N)
   pub judging : (N : Network) → Stored N → (c : ℕ) → JudgingEnds N c (verdictOf N c)
+  pub total : (N : Network) (c : ℕ) → TotalEnds N c (totalOf N c)
   pub list : (N : Network) → Stored N → (cuts sides : List ℕ)
       → ListEnds N cuts sides (listedBy N cuts sides) (cutRowsAfter N cuts sides) (sideRowsAfter N cuts sides)
   -- "Too many cuts" exactly if no earlier fault stands and the mincuts outnumber the rows lent.
@@ -49,7 +52,7 @@ pub record DemandTwo : Type 0 where
   pub reads-back : (N : Network) → Stored N → (lent : List ℕ) → encodedBy N lent .refusal ≡ 0
       → decodeOf (take (encodedBy N lent .count) (bytesAfter N lent)) ≡ accept N
   -- Accepted bytes, written again into any buffer with room, stand there unchanged, with what followed kept.
-  pub writes-again : (s : List ℕ) → decodeOf s .refusal ≡ 0 → (lent : List ℕ) → length s ≤ length lent
+  pub writes-again : (s : List ℕ) → Bytes s → decodeOf s .refusal ≡ 0 → (lent : List ℕ) → length s ≤ length lent
       → (encodedBy (decodeOf s .network) lent ≡ record { refusal = 0; count = length s })
       × (bytesAfter (decodeOf s .network) lent ≡ s ++ drop (length s) lent)
 

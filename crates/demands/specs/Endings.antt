@@ -8,6 +8,7 @@
 --   ReaderEnds s d                   reading the bytes s gives d
 --   PartEnds N p                     finding the relevant part of N gives p
 --   JudgingEnds N c v                judging the set c in N gives v
+--   TotalEnds N c m                  adding up the metres of the set c in N gives m
 --   Kept n before after              lent rows or bytes: as many as before, and past the first n what they held
 --   ListEnds N cuts sides l cuts′ sides′     listing N into rows that held `cuts` and `sides` gives l and leaves cuts′ and sides′
 --   WriterEnds N lent e after        writing N into a buffer that held `lent` gives e and leaves `after`
@@ -31,6 +32,8 @@ use Rattle.graph.specs.Lists.{CompleteList, Outnumber}
 use Rattle.connectivity.specs.declared.RelevantPart.{RelevantPart}
 use Rattle.connectivity.specs.declared.Verdict.{Verdict}
 use Rattle.connectivity.specs.Answers.{partFrom, Says, numbersOf}
+use Rattle.lengths.specs.declared.Measured.{Measured}
+use Rattle.lengths.specs.Lengths.{totalMetres}
 use Rattle.listing.specs.declared.Listed.{Listed}
 use Rattle.text.specs.Text.{refusalLine, listText, maxRows}
 
@@ -49,6 +52,12 @@ pub data JudgingEnds (N : Network) (c : ℕ) : Verdict → Type 0 where
   judged : (v : Verdict) → Rules N → c ⊆ present N → numbersOf v .refusal ≡ 0 → Says N c v → JudgingEnds N c v
   faulty : 0 < faultOf N → JudgingEnds N c (Verdict.Refused (faultOf N))
   absent : Rules N → (c ⊆ present N → ⊥) → JudgingEnds N c (Verdict.Refused 14)
+
+-- The sum of the metres; 14 for an edge that is not present. On refusal it is 0.
+pub data TotalEnds (N : Network) (c : ℕ) : Measured → Type 0 where
+  total : Rules N → c ⊆ present N → TotalEnds N c (record { refusal = 0; metres = totalMetres N c })
+  faulty : 0 < faultOf N → TotalEnds N c (record { refusal = faultOf N; metres = 0 })
+  absent : Rules N → (c ⊆ present N → ⊥) → TotalEnds N c (record { refusal = 14; metres = 0 })
 
 pub record Kept (n : ℕ) (before after : List ℕ) : Type 0 where
   pub size : length after ≡ length before

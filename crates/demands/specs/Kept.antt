@@ -1,11 +1,15 @@
--- What earlier plans keep where a rule was widened or went. A widened rule as it was is today's definition at its earlier limit; one that
--- went is written out here. Each record speaks of one rule, with today's others: `LoopsKept 32` and `PointsKept 32` lead from the first
--- rules to today's.
+-- What earlier plans keep where a rule was widened or went, or a command came. A widened rule as it was is today's definition at its earlier
+-- limit; one that went, and the reader and the writer without the new command, are written out here. Each record speaks of one change, with
+-- today's other rules: `LoopsKept 32`, `LengthsKept 32` and `PointsKept 32` lead from the first rules to today's.
 -- To believe.
 --
 --   PointsKept before    where at most `before` points were allowed: of records and plans the refusal 4 alone is lifted, so what was
 --                        accepted is accepted as it was; its list has the same cuts and the same sides as numbers, and the line of
 --                        each row is the one that was printed
+--
+-- With another rule for a slot, or another walk over the cables' commands:
+--   testBy slot most N       the record test by the fault of each slot, where so many points are the most
+--   decodeBy walk most s     the reader by what it reads into a network from the bytes after the first two commands
 --
 -- Both ends of a cable at one point were refused, as 10:
 --   loopFault a b        the rule: a cable's two ends at one point
@@ -15,19 +19,28 @@
 --   decodeWithTen most s     the reader with it
 --   LoopsKept most       of records and plans the refusal 10 alone is lifted, so that record test and reader answer those without loops as
 --                        they did; and a network has one complete list
-use mathlib.Core.Bool.{cond}
-use mathlib.Core.List.{List, [], _∷_, map, foldr}
+--
+-- Cables had no metres:
+--   Unmeasured N         no slot of N has metres: it is a record of then
+--   slotUnmeasured N k   the fault of slot k as it was
+--   edgesUnmeasured turns N next s       the edge commands and the end, read as they were
+--   decodeUnmeasured most s      the reader as it was
+--   encodeUnmeasured N   the bytes of N as they were written
+--   LengthsKept most     a record of then gets the number and the bytes that it got; of plans the refusal 2 alone is lifted, for a 4D after
+--                        a cable, and what was accepted is what is accepted and has no metres
+use mathlib.Core.Bool.{cond, _||_}
+use mathlib.Core.List.{List, [], _∷_, _++_, map, foldr, flatMap}
 use mathlib.Core.Logic.{_↔_}
 use mathlib.Core.Path.{_≡_}
 use Prim.Native.Nat.{ℕ, zero, suc, _^_, _≤_, _<_}
-use lib.Dec.{eqb}
+use lib.Dec.{eqb, ltb}
 use lib.ListN.{length, getD, drop}
 use Rattle.sequences.specs.Words.{onto}
 use Rattle.network.specs.declared.Network.{Network}
-use Rattle.network.specs.Record.{_when_, _then_, unlessRefused, sizeFault, terminalFault, endFault, absentFault, slots, hasEdge, firstEnd, secondEnd, faultUpTo, faultOf, bare, withEdge, Stored}
+use Rattle.network.specs.Record.{_when_, _then_, unlessRefused, sizeFault, terminalFault, endFault, absentFault, slots, hasEdge, firstEnd, secondEnd, metresOf, faultUpTo, faultOf, bare, withEdge, Stored}
 use Rattle.network.specs.Ends.{Loopless}
 use Rattle.format.specs.declared.Decoded.{Decoded}
-use Rattle.format.specs.Format.{at, sizeStep, terminalsStep, edgeStep, accept, refuse, ifTaken, decodeUpTo, decodeOf}
+use Rattle.format.specs.Format.{at, sizeStep, terminalsStep, edgeStep, lengthStep, lengthSize, accept, refuse, ifTaken, decodeUpTo, decodeOf, encodeOf}
 use Rattle.graph.specs.Lists.{CompleteList, SameList}
 use Rattle.connectivity.specs.Answers.{relevantOf}
 use Rattle.listing.specs.List.{mincuts, sourceSides, listedBy, cutRowsAfter, sideRowsAfter}
@@ -52,22 +65,33 @@ pub record PointsKept (before : ℕ) : Type 0 where
   -- The line of such a side is the one that was printed.
   pub lines : (c side : ℕ) → side < 2 ^ before → lineOf c side ≡ lineUpTo before c side
 
+-- ---- another rule, another walk
+
+unfoldable pub testBy : (Network → ℕ → ℕ) → ℕ → Network → ℕ
+testBy slot most N =
+    sizeFault most (N .nodes) then terminalFault (N .nodes) (N .source) (N .sink) then foldr _then_ 0 (map (slot N) slots)
+
+unfoldable pub decodeBy : (Network → List ℕ → Decoded) → ℕ → List ℕ → Decoded
+decodeBy walk most s =
+    ifTaken (sizeStep most s) λ size.
+    ifTaken (terminalsStep (at size 0) (drop 2 s)) λ terminals.
+    walk (bare (at size 0) (at terminals 0) (at terminals 1)) (drop 5 s)
+
 -- ---- both ends of a cable at one point
 
 -- 10: both ends of a cable at one point
 unfoldable pub loopFault : ℕ → ℕ → ℕ
 loopFault a b = 10 when eqb a b
 
--- The record test as it was: 4, 5, 6, then slot by slot 9 and 10 if present, 13 if absent.
+-- The record test as it was: slot by slot 9 and 10 if present, 13 if absent.
 unfoldable pub slotWithTen : Network → ℕ → ℕ
 slotWithTen N k =
     let a = firstEnd N k in
     let b = secondEnd N k in
-    cond (hasEdge N k) (endFault (N .nodes) a b then loopFault a b) (absentFault a b)
+    cond (hasEdge N k) (endFault (N .nodes) a b then loopFault a b) (absentFault a b (metresOf N k))
 
-unfoldable pub faultWithTen : ℕ → Network → ℕ
-faultWithTen most N =
-    sizeFault most (N .nodes) then terminalFault (N .nodes) (N .source) (N .sink) then foldr _then_ 0 (map (slotWithTen N) slots)
+abbrev pub faultWithTen : ℕ → Network → ℕ
+faultWithTen = testBy slotWithTen
 
 -- The reader as it was: within a cable's command 10 came last.
 unfoldable pub edgesWithTen : ℕ → Network → ℕ → List ℕ → Decoded
@@ -77,15 +101,13 @@ edgesWithTen (suc turns) N next s =
       | [] ↦ accept N
       | k ∷ ends ↦
           unlessRefused (loopFault (at ends 0) (at ends 1))
-          (edgesWithTen turns (withEdge N k (at ends 0) (at ends 1)) (suc k) (drop 4 s))
+          (ifTaken (lengthStep k (drop 4 s)) λ metres.
+          edgesWithTen turns (withEdge N k (at ends 0) (at ends 1) (at metres 0)) (suc k) (drop (lengthSize (at metres 0)) (drop 4 s)))
           (refuse 10)
     ]
 
-unfoldable pub decodeWithTen : ℕ → List ℕ → Decoded
-decodeWithTen most s =
-    ifTaken (sizeStep most s) λ size.
-    ifTaken (terminalsStep (at size 0) (drop 2 s)) λ terminals.
-    let rest = drop 5 s in edgesWithTen (length rest) (bare (at size 0) (at terminals 0) (at terminals 1)) 0 rest
+abbrev pub decodeWithTen : ℕ → List ℕ → Decoded
+decodeWithTen = decodeBy (λ N s. edgesWithTen (length s) N 0 s)
 
 -- At the most points that there may be, `faultUpTo` and `decodeUpTo` are `faultOf` and `decodeOf`.
 pub record LoopsKept (most : ℕ) : Type 0 where
@@ -101,3 +123,42 @@ pub record LoopsKept (most : ℕ) : Type 0 where
   -- Whoever listed a network, if the list was complete it was this one: `CompleteList` and all that it cites are as they were.
   pub lists : (N : Network) (n m : ℕ) (cuts sides cuts′ sides′ : List ℕ) → CompleteList N n cuts sides → CompleteList N m cuts′ sides′
       → SameList n cuts m cuts′ × SameList n sides m sides′
+
+-- ---- cables without metres
+
+abbrev pub Unmeasured : Network → Type 0
+Unmeasured N = (k : ℕ) → k < 64 → metresOf N k ≡ 0
+
+-- 13 was: an absent cable with an end not 0
+unfoldable pub slotUnmeasured : Network → ℕ → ℕ
+slotUnmeasured N k =
+    let a = firstEnd N k in
+    let b = secondEnd N k in
+    cond (hasEdge N k) (endFault (N .nodes) a b) (13 when (ltb 0 a || ltb 0 b))
+
+-- After a cable's command came the next one, or the end.
+unfoldable pub edgesUnmeasured : ℕ → Network → ℕ → List ℕ → Decoded
+edgesUnmeasured zero N next s = refuse 1
+edgesUnmeasured (suc turns) N next s =
+    ifTaken (edgeStep (N .nodes) next s) λ v. elim v [
+      | [] ↦ accept N
+      | k ∷ ends ↦ edgesUnmeasured turns (withEdge N k (at ends 0) (at ends 1) 0) (suc k) (drop 4 s)
+    ]
+
+abbrev pub decodeUnmeasured : ℕ → List ℕ → Decoded
+decodeUnmeasured = decodeBy (λ N s. edgesUnmeasured (length s) N 0 s)
+
+unfoldable pub encodeUnmeasured : Network → List ℕ
+encodeUnmeasured N =
+    0x50 ∷ N .nodes ∷ 0x53 ∷ N .source ∷ N .sink
+    ∷ (flatMap (λ k. cond (hasEdge N k) (0x43 ∷ k ∷ firstEnd N k ∷ secondEnd N k ∷ []) []) slots ++ 0x45 ∷ [])
+
+pub record LengthsKept (most : ℕ) : Type 0 where
+  -- A record of then gets the number that it got.
+  pub faults : (N : Network) → Unmeasured N → faultUpTo most N ≡ testBy slotUnmeasured most N
+  -- It is written in the bytes of then.
+  pub bytes : (N : Network) → Unmeasured N → encodeOf N ≡ encodeUnmeasured N
+  -- Any answer of the reader but 2, the record too, is the one that it gave.
+  pub plans : (s : List ℕ) → (decodeUnmeasured most s .refusal ≡ 2 → ⊥) → decodeUpTo most s ≡ decodeUnmeasured most s
+  -- What was accepted is what is accepted and has no metres.
+  pub read : (s : List ℕ) → (decodeUnmeasured most s .refusal ≡ 0) ↔ ((decodeUpTo most s .refusal ≡ 0) × Unmeasured (decodeUpTo most s .network))

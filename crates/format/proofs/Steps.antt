@@ -5,18 +5,22 @@
 --   SizeView most s          the answer of the command 50, with what it tells of the bytes
 --   TerminalsView n s        that of 53
 --   EdgeView n next s        that of 43, or of 45
-use mathlib.Core.Bool.{Bool, true, false, not}
-use mathlib.Core.List.{List, [], _∷_}
-use mathlib.Core.Path.{_≡_, refl, ap, _∙_}
-use Prim.Native.Nat.{ℕ, zero, suc, _≤_, _<_}
+--   LengthView before s      that of 4D, straight after the edge `before`
+--   LengthRead k m s         a length of m metres for edge k, nothing if m is 0, stands in front of s
+use mathlib.Core.Bool.{Bool, true, false, cond, not, _||_}
+use mathlib.Core.List.{List, [], _∷_, _++_}
+use mathlib.Core.Path.{_≡_, refl, ap, ap₂, sym, subst, _∙_}
+use Prim.Native.Nat.{ℕ, zero, suc, _+_, _*_, _/_, _%_, _≤_, _<_}
+use native.Mathlib.Decide.{ℕ-discrete}
+use native.Mathlib.Nat.{add-zero, div-add-mod', div-eq-of-lt, mod-eq-of-lt, mul-add-div-right, mul-add-mod-self-right}
 use native.Mathlib.Omega.{arith}
 use lib.Dec.{T, ltb, eqb}
 use lib.ListN.{length, drop}
-use borrow.Author.Tests.{le-ltb, eq-eqb, ltb-false, eqb-true, not-false}
+use borrow.Author.Tests.{lt-ltb, le-ltb, eq-eqb, ne-eqb, ltb-false, eqb-true, eqb-false, not-false}
 use Rattle.network.specs.Record.{among, _when_, _then_, sizeFault, terminalFault, endFault}
-use Rattle.network.proofs.Refusals.{then-none, none-then, when-none, none-when, then-among, when-among, outside-among, terminals-among}
+use Rattle.network.proofs.Refusals.{then-none, none-then, some-then, when-none, none-when, some-when, or-none, then-among, when-among, outside-among, terminals-among}
 use Rattle.format.specs.declared.Step.{Step}
-use Rattle.format.specs.Format.{readerRefusals, at, missing, unfit, numberFault, sizeRefusal, terminalsRefusal, edgeRefusal, endRefusal, sizeStep, terminalsStep, edgeStep}
+use Rattle.format.specs.Format.{readerRefusals, at, Bytes, missing, unfit, numberFault, sizeRefusal, terminalsRefusal, edgeRefusal, endRefusal, lengthFault, metresIn, lengthSize, lengthRefusal, lengthCommand, sizeStep, terminalsStep, edgeStep, lengthStep}
 
 -- ---- the rules that every command shares
 
@@ -53,6 +57,13 @@ command-none c k s values e =
     let b = then-none (unfit c s) (missing k s then values) (a .1) in
     let d = then-none (missing k s) values (b .1) in
     (unfit-none c s (b .0), (missing-none k s (d .0), d .1))
+
+-- A command byte that is another one decides, whatever the operands.
+pub command-unfit : (c k : ℕ) (s : List ℕ) (values : ℕ) → 0 < length s → (at s 0 ≡ c → ⊥) → command c k s values ≡ 2
+command-unfit c k s values h d =
+    none-then _ (none-missing 1 s h)
+    ∙ ap (λ r. r then missing k s then values) (some-when 2 (ap not (ne-eqb (at s 0) c d)))
+    ∙ some-then 2 _ (omega arith)
 
 -- A command that fits and is whole is decided by its values.
 pub command-values : (c k : ℕ) (s : List ℕ) (values : ℕ) → at s 0 ≡ c → 0 < k → k ≤ length s → command c k s values ≡ values
@@ -188,3 +199,128 @@ edge-taken n next k a b s h l e =
 pub end-taken : (n next : ℕ) → edgeStep n next (0x45 ∷ []) ≡ Step.End
 unfolding edgeStep endRefusal _when_
 end-taken n next = refl
+
+-- After the end no byte is fit.
+pub end-refused : (n next x : ℕ) (s : List ℕ) → edgeStep n next (0x45 ∷ x ∷ s) ≡ Step.Refused 3
+unfolding edgeStep endRefusal
+end-refused n next x s = rw (some-when 3 (lt-ltb 1 (length (0x45 ∷ x ∷ s)) (omega arith)))
+
+-- A length is fit for no other command's place.
+module _ (s : List ℕ) (e : at s 0 ≡ 0x4D) where
+  some-byte : (s : List ℕ) → at s 0 ≡ 0x4D → 0 < length s
+  some-byte [] e = absurd (let bad : _≡_ {A = ℕ} 0 0x4D = e in omega arith)
+  some-byte (x ∷ s) e = omega arith
+
+  not-length : (c k values : ℕ) → (0x4D ≡ c → ⊥) → command c k s values ≡ 2
+  not-length c k values d = command-unfit c k s values (some-byte s e) (λ f. d (sym e ∙ f))
+
+  pub size-unfit : (most : ℕ) → sizeStep most s ≡ Step.Refused 2
+  unfolding sizeStep sizeRefusal
+  size-unfit most = rw (not-length 0x50 2 (sizeFault most (at s 1)) (λ z. let bad : _≡_ {A = ℕ} 0x4D 0x50 = z in omega arith))
+
+  pub terminals-unfit : (n : ℕ) → terminalsStep n s ≡ Step.Refused 2
+  unfolding terminalsStep terminalsRefusal
+  terminals-unfit n = rw (not-length 0x53 3 (terminalFault n (at s 1) (at s 2)) (λ z. let bad : _≡_ {A = ℕ} 0x4D 0x53 = z in omega arith))
+
+  pub edge-unfit : (n next : ℕ) → edgeStep n next s ≡ Step.Refused 2
+  unfolding edgeStep edgeRefusal
+  edge-unfit n next =
+      rw (
+        ne-eqb (at s 0) 0x45 (λ f. let bad : _≡_ {A = ℕ} 0x4D 0x45 = sym e ∙ f in omega arith),
+        not-length 0x43 4 (numberFault next (at s 1) then endFault n (at s 2) (at s 3)) (λ z. let bad : _≡_ {A = ℕ} 0x4D 0x43 = z in omega arith),
+      )
+
+-- ---- a length
+
+pub data LengthView (before : ℕ) (s : List ℕ) : Type 0 where
+  measured : (high low : ℕ) (rest : List ℕ) → lengthStep before s ≡ Step.Length (high * 256 + low) → s ≡ 0x4D ∷ before ∷ high ∷ low ∷ rest
+      → (high * 256 + low ≡ 0 → ⊥) → LengthView before s
+  unmeasured : lengthStep before s ≡ Step.Length 0 → (at s 0 ≡ 0x4D → ⊥) → LengthView before s
+  refused : (r : ℕ) → lengthStep before s ≡ Step.Refused r → 0 < r → T (among readerRefusals r) → at s 0 ≡ 0x4D → LengthView before s
+
+-- A length is free of faults exactly if it is of the edge just before, and not of 0 metres.
+length-none : (before k m : ℕ) → lengthFault before k m ≡ 0 → (k ≡ before) × (m ≡ 0 → ⊥)
+unfolding lengthFault
+length-none before k m e =
+    let f = or-none (not (eqb k before)) (eqb m 0) (when-none 28 (not (eqb k before) || eqb m 0) (omega arith) e) in
+    (eqb-true k before (not-false (eqb k before) (f .0)), eqb-false m 0 (f .1))
+
+none-length : (k m : ℕ) → (m ≡ 0 → ⊥) → lengthFault k k m ≡ 0
+unfolding lengthFault
+none-length k m some = none-when 28 (ap₂ (λ a b. not a || b) (eq-eqb k k refl) (ne-eqb m 0 some))
+
+pub length-view : (before : ℕ) (s : List ℕ) → LengthView before s
+unfolding among lengthStep lengthRefusal lengthFault
+length-view before s = go (eqb (at s 0) 0x4D) refl
+  where
+    at-length : eqb (at s 0) 0x4D ≡ true → (r : ℕ) → lengthRefusal before s ≡ r → LengthView before s
+    at-length c zero e =
+        let f = then-none (missing 4 s) (lengthFault before (at s 1) (metresIn s)) e in
+        let g = length-none before (at s 1) (metresIn s) (f .1) in
+        measured (at s 2) (at s 3) (drop 4 s) (rw (c, e))
+        (four s (missing-none 4 s (f .0)) ∙ ap₂ (λ x y. x ∷ y ∷ at s 2 ∷ at s 3 ∷ drop 4 s) (eqb-true (at s 0) 0x4D c) (g .0)) (g .1)
+    at-length c (suc r) e =
+        LengthView.refused (suc r) (rw (c, e)) (omega arith)
+        (rw e at (then-among readerRefusals (missing 4 s) (lengthFault before (at s 1) (metresIn s)) (when-among readerRefusals 1 _ tt)
+        (when-among readerRefusals 28 (not (eqb (at s 1) before) || eqb (metresIn s) 0) tt)))
+        (eqb-true (at s 0) 0x4D c)
+
+    go : (b : Bool) → eqb (at s 0) 0x4D ≡ b → LengthView before s
+    go true c = at-length c (lengthRefusal before s) refl
+    go false c = unmeasured (rw c) (eqb-false (at s 0) 0x4D c)
+
+-- What the writer makes of a length is read back, whatever follows, if that is no length.
+pub length-taken : (k m : ℕ) (s : List ℕ) → (at s 0 ≡ 0x4D → ⊥) → lengthStep k (lengthCommand k m ++ s) ≡ Step.Length m
+unfolding lengthCommand lengthStep lengthRefusal _then_
+length-taken k m s none = go (ℕ-discrete m 0)
+  where
+    go : Dec (m ≡ 0) → lengthStep k (cond (eqb m 0) [] (0x4D ∷ k ∷ m / 256 ∷ m % 256 ∷ []) ++ s) ≡ Step.Length m
+    go (yes z) = rw (eq-eqb m 0 z, ne-eqb (at s 0) 0x4D none) (ap Step.Length (sym z))
+    go (no some) =
+        let whole : m / 256 * 256 + m % 256 ≡ m = div-add-mod' m 256 in
+        rw (ne-eqb m 0 some) (rw (whole, none-missing 4 (0x4D ∷ k ∷ m / 256 ∷ m % 256 ∷ s) (omega arith), none-length k m some))
+
+-- Behind it stands what followed.
+pub length-left : (k m : ℕ) (s : List ℕ) → drop (lengthSize m) (lengthCommand k m ++ s) ≡ s
+unfolding lengthSize lengthCommand
+length-left k m s = go (eqb m 0)
+  where
+    go : (b : Bool) → drop (cond b 0 4) (cond b [] (0x4D ∷ k ∷ m / 256 ∷ m % 256 ∷ []) ++ s) ≡ s
+    go true = refl
+    go false = refl
+
+-- A length of m metres for edge k, nothing if m is 0, stands in front of s.
+pub record LengthRead (k m : ℕ) (s : List ℕ) : Type 0 where
+  pub size : length s ≡ length (lengthCommand k m) + length (drop (lengthSize m) s)
+  pub bytes : Bytes s → s ≡ lengthCommand k m ++ drop (lengthSize m) s
+
+-- Two bytes are those of the number that they make.
+two-bytes : (high low : ℕ) → low < 256 → ((high * 256 + low) / 256 ≡ high) × ((high * 256 + low) % 256 ≡ low)
+two-bytes high low l = (
+  mul-add-div-right (omega arith) high low ∙ ap (λ x. high + x) (div-eq-of-lt l) ∙ add-zero high,
+  mul-add-mod-self-right high 256 low ∙ mod-eq-of-lt l,
+)
+
+unmeasured-read : (k : ℕ) (s : List ℕ) → LengthRead k 0 s
+unfolding lengthSize lengthCommand
+unmeasured-read k s = record { size = omega arith; bytes = λ _. refl }
+
+measured-read : (k high low : ℕ) (rest : List ℕ) → (high * 256 + low ≡ 0 → ⊥) → LengthRead k (high * 256 + low) (0x4D ∷ k ∷ high ∷ low ∷ rest)
+unfolding lengthSize lengthCommand
+measured-read k high low rest some = record {
+  size = rw (ne-eqb (high * 256 + low) 0 some) (omega arith);
+  bytes = λ b.
+      let both = two-bytes high low (b 3) in
+      rw (ne-eqb (high * 256 + low) 0 some) (ap₂ (λ x y. 0x4D ∷ k ∷ x ∷ y ∷ rest) (sym (both .0)) (sym (both .1)));
+}
+
+-- The answer of a length tells that it stands there.
+pub length-read : (k m : ℕ) (s : List ℕ) → lengthStep k s ≡ Step.Length m → LengthRead k m s
+length-read k m s e = go (length-view k s)
+  where
+    go : LengthView k s → LengthRead k m s
+    go (measured high low rest step p some) =
+        let same : high * 256 + low ≡ m = cc in
+        subst (λ n. LengthRead k n s) same (subst (LengthRead k (high * 256 + low)) (sym p) (measured-read k high low rest some))
+    go (unmeasured step none) = let same : 0 ≡ m = cc in subst (λ n. LengthRead k n s) same (unmeasured-read k s)
+    go (LengthView.refused r step p b c) = absurd (let z : _≡_ {A = ℕ} 0 1 = cc in omega arith)

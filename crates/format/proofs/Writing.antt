@@ -1,31 +1,28 @@
 -- Reading what was written gives the same record, and how long a plan can be.
 -- Assumes nothing.
---
---   rest N k n       the commands of the n slots from k on, and the end
 use mathlib.Core.Bool.{Bool, true, false, cond, _&&_, _||_, or-false, or-true, and-false}
-use mathlib.Core.List.{List, [], _∷_, _++_, flatMap, append-assoc, append-nil}
+use mathlib.Core.List.{List, [], _∷_, _++_, append-nil}
 use mathlib.Core.Logic.{_⊎_, inl, inr}
 use mathlib.Core.Path.{_≡_, refl, ap, ap₂, sym, _∙_}
-use Prim.Native.Nat.{ℕ, zero, suc, _+_, _-_, _*_, _%_, _^_, _≤_, _<_, zero-le}
-use native.Mathlib.Nat.{mod-eq-of-lt, mod-one, le-refl, add-zero, zero-add}
+use Prim.Native.Nat.{ℕ, zero, suc, _+_, _-_, _*_, _/_, _%_, _^_, _≤_, _<_, zero-le}
+use native.Mathlib.Nat.{mod-eq-of-lt, mod-one, le-refl}
 use native.Mathlib.Decide.{ℕ-discrete, decLt}
 use native.Mathlib.Omega.{arith}
 use lib.Dec.{ltb, eqb}
 use lib.ListN.{length, getD, take, drop, set, replicate, length-append, length-drop}
 use lib.Seq.{take-suc, take-all, length-take-le, set-at, append-snoc, sets, sets-eq, drop-drop, drop-at, take-at, take-add, take-append-seam, drop-append-seam}
-use borrow.Author.Tests.{lt-ltb, le-ltb, eq-eqb, ne-eqb, ltb-false}
-use Rattle.sequences.specs.Words.{range}
-use Rattle.bitset.specs.Members.{has, insert, size}
+use borrow.Author.Tests.{lt-ltb, le-ltb, eq-eqb, ne-eqb}
+use Rattle.bitset.specs.Members.{has, insert}
 use Rattle.bitset.proofs.Members.{has-insert, has-mod, same-members}
 use Rattle.node_set.specs.Width.{nodeWidth}
 use Rattle.network.specs.declared.Network.{Network}
-use Rattle.network.specs.Record.{rewired, Stored, Slot, slot, slots, slotFault, endFault, absentFault, faultOf, bare, withEdge, hasEdge, firstEnd, secondEnd, present}
-use Rattle.network.proofs.Refusals.{when-none, or-none}
+use Rattle.network.specs.Record.{rewired, Stored, Slot, slot, slotFault, endFault, faultOf, bare, withEdge, hasEdge, firstEnd, secondEnd, metresOf, present}
+use Rattle.network.proofs.Rules.{absent-none}
 use Rattle.network.proofs.Slots.{empty, accepted}
-use Rattle.format.specs.Format.{accept, edges, decodeOf, commandOf, edgeCommand, encodeOf, WrittenTo}
-use Rattle.format.proofs.Steps.{size-taken, terminals-taken, edge-taken, end-taken}
+use Rattle.format.specs.Format.{at, accept, edges, decodeOf, lengthCommand, edgeCommand, encodeOf, WrittenTo}
+use Rattle.format.proofs.Steps.{size-taken, terminals-taken, edge-taken, end-taken, length-taken, length-left}
 use Rattle.format.proofs.Walk.{terminals-goes, edges-edge, edges-end}
-use Rattle.format.proofs.Commands.{command-absent}
+use Rattle.format.proofs.Commands.{command-of, command-absent, rest, rest-first, rest-none, encode-header, encode-size}
 
 -- The first k of 64 ends, the others 0.
 prefix : ℕ → List ℕ → List ℕ
@@ -86,26 +83,28 @@ below-same s k e = same-members _ _ (λ j. has-mod (suc k) s j ∙ at j (ℕ-dis
 
 -- N with its edges below k alone.
 below : Network → ℕ → Network
-below N k = rewired N (present N % 2 ^ k) (prefix k (N .first)) (prefix k (N .second))
+below N k = rewired N (present N % 2 ^ k) (prefix k (N .first)) (prefix k (N .second)) (prefix k (N .metres))
 
--- Two networks with the same nodes and terminals are equal if their edges and ends are.
-rewired-equal : (N : Network) {p p′ : ℕ} {f f′ g g′ : List ℕ} → p ≡ p′ → f ≡ f′ → g ≡ g′ → rewired N p f g ≡ rewired N p′ f′ g′
-rewired-equal N e e′ e″ = λ i. rewired N (e i) (e′ i) (e″ i)
+-- Two networks with the same nodes and terminals are equal if their edges, ends and metres are.
+rewired-equal : (N : Network) {p p′ : ℕ} {f f′ g g′ h h′ : List ℕ} → p ≡ p′ → f ≡ f′ → g ≡ g′ → h ≡ h′ → rewired N p f g h ≡ rewired N p′ f′ g′ h′
+rewired-equal N a b c d = λ i. rewired N (a i) (b i) (c i) (d i)
 
 module _ (N : Network) (stored : Stored N) where
   below-none : bare (N .nodes) (N .source) (N .sink) ≡ below N 0
   unfolding below bare prefix
-  below-none = rewired-equal N (sym (mod-one (present N))) refl refl
+  below-none = rewired-equal N (sym (mod-one (present N))) refl refl refl
 
   below-all : below N 64 ≡ N
   unfolding below
-  below-all = rewired-equal N (mod-eq-of-lt (stored .edges)) (prefix-all (N .first) (stored .firsts)) (prefix-all (N .second) (stored .seconds))
+  below-all =
+      rewired-equal N (mod-eq-of-lt (stored .edges)) (prefix-all (N .first) (stored .firsts)) (prefix-all (N .second) (stored .seconds))
+      (prefix-all (N .metres) (stored .lengths))
 
-  below-edge : (k : ℕ) → k < 64 → hasEdge N k ≡ true → withEdge (below N k) k (firstEnd N k) (secondEnd N k) ≡ below N (suc k)
+  below-edge : (k : ℕ) → k < 64 → hasEdge N k ≡ true → withEdge (below N k) k (firstEnd N k) (secondEnd N k) (metresOf N k) ≡ below N (suc k)
   unfolding below withEdge
   below-edge k l e =
       rewired-equal N (below-more (present N) k e) (prefix-set k (N .first) l (stored .firsts))
-      (prefix-set k (N .second) l (stored .seconds))
+      (prefix-set k (N .second) l (stored .seconds)) (prefix-set k (N .metres) l (stored .lengths))
 
   below-absent : (k : ℕ) → k < 64 → slot N k ≡ empty → below N (suc k) ≡ below N k
   unfolding below
@@ -113,32 +112,34 @@ module _ (N : Network) (stored : Stored N) where
       rewired-equal N (below-same (present N) k (ap (λ (x : Slot). x .0) e))
       (prefix-zero k (N .first) l (stored .firsts) (ap (λ (x : Slot). x .1) e))
       (prefix-zero k (N .second) l (stored .seconds) (ap (λ (x : Slot). x .2) e))
+      (prefix-zero k (N .metres) l (stored .lengths) (ap (λ (x : Slot). x .3) e))
 
 -- A slot without a fault holds an edge with good ends, or nothing.
 slot-cases : (N : Network) (k : ℕ) → slotFault N k ≡ 0 → (b : Bool) → hasEdge N k ≡ b
     → ((b ≡ true) × (endFault (N .nodes) (firstEnd N k) (secondEnd N k) ≡ 0)) ⊎ (slot N k ≡ empty)
-unfolding slotFault absentFault
+unfolding slotFault
 slot-cases N k z true e = inl (refl, (rw e at z))
 slot-cases N k z false e =
-    let zeros = or-none (ltb 0 (firstEnd N k)) (ltb 0 (secondEnd N k))
-    (when-none 13 (ltb 0 (firstEnd N k) || ltb 0 (secondEnd N k)) (omega arith) (rw e at z)) in
-    let low = ltb-false 0 (firstEnd N k) (zeros .0) in
-    let high = ltb-false 0 (secondEnd N k) (zeros .1) in
-    let f : firstEnd N k ≡ 0 = omega arith in
-    let g : secondEnd N k ≡ 0 = omega arith in
-    inr (λ i. (e i, f i, g i))
+    let zeros = absent-none (firstEnd N k) (secondEnd N k) (metresOf N k) (rw e at z) in
+    inr (λ i. (e i, zeros .0 i, zeros .1 i, zeros .2 i))
 
--- The commands of the n slots from k on, and the end.
-pub rest : Network → ℕ → ℕ → List ℕ
-rest N k n = flatMap (edgeCommand N) (range k n) ++ 0x45 ∷ []
+rest-edge : (N : Network) (k n : ℕ) → hasEdge N k ≡ true
+    → rest N k (suc n) ≡ 0x43 ∷ k ∷ firstEnd N k ∷ secondEnd N k ∷ (lengthCommand k (metresOf N k) ++ rest N (suc k) n)
+rest-edge N k n e =
+    let here : slot N k ≡ (true, firstEnd N k, secondEnd N k, metresOf N k) = λ i. (e i, firstEnd N k, secondEnd N k, metresOf N k) in
+    rest-first N k n ∙ ap (λ c. c ++ rest N (suc k) n) (command-of N k here)
 
-rest-edge : (N : Network) (k n : ℕ) → hasEdge N k ≡ true → rest N k (suc n) ≡ 0x43 ∷ k ∷ firstEnd N k ∷ secondEnd N k ∷ rest N (suc k) n
-unfolding rest flatMap range edgeCommand
-rest-edge N k n e = rw e
+rest-absent : (N : Network) (k n : ℕ) → hasEdge N k ≡ false → rest N k (suc n) ≡ rest N (suc k) n
+rest-absent N k n e = rest-first N k n ∙ ap (λ c. c ++ rest N (suc k) n) (command-absent N k e)
 
-rest-absent : (N : Network) (k n : ℕ) → slot N k ≡ empty → rest N k (suc n) ≡ rest N (suc k) n
-unfolding rest flatMap range
-rest-absent N k n e = ap (λ c. (c ++ flatMap (edgeCommand N) (range (suc k) n)) ++ 0x45 ∷ []) (command-absent N k (ap (λ (x : Slot). x .0) e))
+-- No length comes first.
+rest-start : (N : Network) (n k : ℕ) → at (rest N k n) 0 ≡ 0x4D → ⊥
+rest-start N zero k e = let bad : _≡_ {A = ℕ} 0x45 0x4D = sym (ap (λ s. at s 0) (rest-none N k)) ∙ e in omega arith
+rest-start N (suc n) k e = go (rest-start N n (suc k)) (hasEdge N k) refl
+  where
+    go : (at (rest N (suc k) n) 0 ≡ 0x4D → ⊥) → (b : Bool) → hasEdge N k ≡ b → ⊥
+    go later true p = let bad : _≡_ {A = ℕ} 0x43 0x4D = sym (ap (λ s. at s 0) (rest-edge N k n p)) ∙ e in omega arith
+    go later false p = later (sym (ap (λ s. at s 0) (rest-absent N k n p)) ∙ e)
 
 module _ (N : Network) (stored : Stored N) (sound : (k : ℕ) → k < 64 → slotFault N k ≡ 0) where
   -- The commands of N from slot k on, read into the edges below k, give N.
@@ -147,11 +148,11 @@ module _ (N : Network) (stored : Stored N) (sound : (k : ℕ) → k < 64 → slo
       (k next turns : ℕ) → k + left ≡ 64 → next ≤ k → length (rest N k left) ≤ turns → edges turns (below N k) next (rest N k left) ≡ accept N
 
   read-none : ReadFrom 0
-  unfolding rest flatMap range
-  read-none k next zero e h t = absurd (omega arith)
+  read-none k next zero e h t = absurd (omega (arith, ap length (rest-none N k)))
   read-none k next (suc turns) e h t =
       let all : k ≡ 64 = omega arith in
-      edges-end turns (below N k) next (0x45 ∷ []) (end-taken (below N k .nodes) next) ∙ ap accept (ap (below N) all ∙ below-all N stored)
+      ap (edges (suc turns) (below N k) next) (rest-none N k)
+      ∙ edges-end turns (below N k) next (0x45 ∷ []) (end-taken (below N k .nodes) next) ∙ ap accept (ap (below N) all ∙ below-all N stored)
 
   read-more : (left : ℕ) → ReadFrom left → ReadFrom (suc left)
   unfolding below
@@ -162,19 +163,23 @@ module _ (N : Network) (stored : Stored N) (sound : (k : ℕ) → k < 64 → slo
           → endFault (N .nodes) (firstEnd N k) (secondEnd N k) ≡ 0 → edges turns (below N k) next (rest N k (suc left)) ≡ accept N
       edge-read zero t p f = absurd (omega (arith, ap length (rest-edge N k left p)))
       edge-read (suc turns) t p f =
+          let m : ℕ = metresOf N k in
+          let after : List ℕ = rest N (suc k) left in
           let bytes = rest-edge N k left p in
           let l : k < 64 = omega arith in
-          let shorter : length (rest N (suc k) left) ≤ turns = omega (arith, ap length bytes) in
+          let shorter : length after ≤ turns = omega (arith, ap length bytes, length-append (lengthCommand k m) after) in
           ap (edges (suc turns) (below N k) next) bytes
-          ∙ edges-edge turns (below N k) next _ (edge-taken (N .nodes) next k (firstEnd N k) (secondEnd N k) (rest N (suc k) left) h l f)
-          ∙ ap (λ x. edges turns x (suc k) (rest N (suc k) left)) (below-edge N stored k l p)
+          ∙ edges-edge turns (below N k) next (0x43 ∷ k ∷ firstEnd N k ∷ secondEnd N k ∷ (lengthCommand k m ++ after))
+          (edge-taken (N .nodes) next k (firstEnd N k) (secondEnd N k) (lengthCommand k m ++ after) h l f)
+          (length-taken k m after (rest-start N left (suc k)))
+          ∙ ap₂ (λ x y. edges turns x (suc k) y) (below-edge N stored k l p) (length-left k m after)
           ∙ later (suc k) (suc k) turns (omega arith) (omega arith) shorter
 
       go : ((hasEdge N k ≡ true) × (endFault (N .nodes) (firstEnd N k) (secondEnd N k) ≡ 0)) ⊎ (slot N k ≡ empty)
           → edges turns (below N k) next (rest N k (suc left)) ≡ accept N
       go (inl p) = edge-read turns t (p .0) (p .1)
       go (inr p) =
-          let bytes = rest-absent N k left p in
+          let bytes = rest-absent N k left (ap (λ (x : Slot). x .0) p) in
           let same : length (rest N (suc k) left) ≤ turns = omega (arith, ap length bytes) in
           ap₂ (λ x y. edges turns x next y) (sym (below-absent N stored k (omega arith) p)) bytes
           ∙ later (suc k) next turns (omega arith) (omega arith) same
@@ -185,77 +190,39 @@ module _ (N : Network) (stored : Stored N) (sound : (k : ℕ) → k < 64 → slo
 
 -- Reading what was written gives the same record, for every accepted record.
 pub encode-decode : (N : Network) → Stored N → faultOf N ≡ 0 → decodeOf (encodeOf N) ≡ accept N
-unfolding encodeOf rest
 encode-decode N stored z =
     let a = accepted N z in
-    terminals-goes (encodeOf N) refl (size-taken nodeWidth (N .nodes) _ (a .size)) refl (terminals-taken (N .nodes) (N .source) (N .sink) _ (a .terminals))
+    ap decodeOf (encode-header N)
+    ∙ terminals-goes (0x50 ∷ N .nodes ∷ 0x53 ∷ N .source ∷ N .sink ∷ rest N 0 64) refl (size-taken nodeWidth (N .nodes) _ (a .size)) refl
+    (terminals-taken (N .nodes) (N .source) (N .sink) _ (a .terminals))
     ∙ ap (λ x. edges (length (rest N 0 64)) x 0 (rest N 0 64)) (below-none N stored)
     ∙ read-from N stored (a .slot-none) 64 0 0 (length (rest N 0 64)) refl zero-le (le-refl _)
 
 -- ---- the longest plan
 
--- A slot has at most four bytes.
-command-length : (N : Network) (k : ℕ) → length (edgeCommand N k) ≤ 4
-unfolding edgeCommand
-command-length N k = go (hasEdge N k)
+-- A slot has at most eight bytes.
+command-length : (N : Network) (k : ℕ) → length (edgeCommand N k) ≤ 8
+unfolding edgeCommand lengthCommand
+command-length N k = go (hasEdge N k) (eqb (metresOf N k) 0)
   where
-    go : (b : Bool) → length (commandOf k (b, firstEnd N k, secondEnd N k)) ≤ 4
-    go true = le-refl 4
-    go false = zero-le
+    go : (b z : Bool)
+        → length (cond b (0x43 ∷ k ∷ firstEnd N k ∷ secondEnd N k ∷ cond z [] (0x4D ∷ k ∷ metresOf N k / 256 ∷ metresOf N k % 256 ∷ [])) []) ≤ 8
+    go true true = omega arith
+    go true false = omega arith
+    go false z = omega arith
 
-commands-length : (N : Network) (k n : ℕ) → length (rest N k n) ≤ 4 * n + 1
-unfolding rest flatMap range
-commands-length N k zero = le-refl 1
-commands-length N k (suc n) =
+commands-length : (N : Network) (n k : ℕ) → length (rest N k n) ≤ 8 * n + 1
+commands-length N zero k = omega (arith, ap length (rest-none N k))
+commands-length N (suc n) k =
     let more : length (rest N k (suc n)) ≡ length (edgeCommand N k) + length (rest N (suc k) n) =
-    ap length (append-assoc (edgeCommand N k) (flatMap (edgeCommand N) (range (suc k) n)) (0x45 ∷ []))
-    ∙ length-append (edgeCommand N k) (rest N (suc k) n) in
-    omega (arith, command-length N k, commands-length N (suc k) n)
+    ap length (rest-first N k n) ∙ length-append (edgeCommand N k) (rest N (suc k) n) in
+    omega (arith, command-length N k, commands-length N n (suc k))
 
--- A plan has at most 262 bytes.
-pub encode-length : (N : Network) → length (encodeOf N) ≤ 262
-unfolding encodeOf rest
-encode-length N = omega (arith, commands-length N 0 64)
+-- A plan has at most 518 bytes.
+pub encode-length : (N : Network) → length (encodeOf N) ≤ 518
+encode-length N = omega (arith, encode-size N, commands-length N 64 0)
 
 -- ---- the writer's steps
-
--- One slot more stands at the end of a row.
-range-snoc : (k n : ℕ) → range k (suc n) ≡ range k n ++ (k + n) ∷ []
-unfolding range
-range-snoc k zero = ap (λ x. x ∷ []) (sym (add-zero k))
-range-snoc k (suc n) = let e : suc k + n ≡ k + suc n = omega arith in ap (λ l. k ∷ l) (range-snoc (suc k) n ∙ ap (λ x. range (suc k) n ++ x ∷ []) e)
-
-flatMap-append : (f : ℕ → List ℕ) (l m : List ℕ) → flatMap f (l ++ m) ≡ flatMap f l ++ flatMap f m
-unfolding flatMap
-flatMap-append f [] m = refl
-flatMap-append f (x ∷ l) m = ap (λ t. f x ++ t) (flatMap-append f l m) ∙ sym (append-assoc (f x) (flatMap f l) (flatMap f m))
-
--- The commands have four bytes for each present edge.
-command-size : (N : Network) (k : ℕ) → length (edgeCommand N k) + 4 * size k (present N) ≡ 4 * size (suc k) (present N)
-unfolding edgeCommand size
-command-size N k = go (hasEdge N k)
-  where
-    go : (b : Bool)
-        → length (cond b (0x43 ∷ k ∷ firstEnd N k ∷ secondEnd N k ∷ []) []) + 4 * size k (present N)
-        ≡ 4 * (elim b as (λ x. ℕ) [ true ↦ suc (size k (present N)) | false ↦ size k (present N) ])
-    go true = omega arith
-    go false = omega arith
-
-commands-size : (N : Network) (n : ℕ) → length (flatMap (edgeCommand N) (range 0 n)) ≡ 4 * size n (present N)
-unfolding range flatMap size
-commands-size N zero = refl
-commands-size N (suc n) =
-    let last : flatMap (edgeCommand N) (range 0 (suc n)) ≡ flatMap (edgeCommand N) (range 0 n) ++ edgeCommand N n =
-    ap (flatMap (edgeCommand N)) (range-snoc 0 n)
-    ∙ flatMap-append (edgeCommand N) (range 0 n) ((0 + n) ∷ [])
-    ∙ ap (λ c. flatMap (edgeCommand N) (range 0 n) ++ c) (append-nil (edgeCommand N (0 + n)) ∙ ap (edgeCommand N) (zero-add n)) in
-    ap length last ∙ length-append (flatMap (edgeCommand N) (range 0 n)) (edgeCommand N n)
-    ∙ omega (arith, commands-size N n, command-size N n)
-
--- A plan has six bytes and four for each edge.
-pub encode-size : (N : Network) → length (encodeOf N) ≡ 6 + 4 * size 64 (present N)
-unfolding encodeOf
-encode-size N = omega (arith, commands-size N 64, length-append (flatMap (edgeCommand N) slots) (0x45 ∷ []))
 
 -- A buffer keeps its length.
 pub written-length : (e l : List ℕ) (n : ℕ) (p : List ℕ) → WrittenTo e l n p → length p ≡ length l
@@ -300,10 +267,7 @@ module _ (e l p : List ℕ) (at : ℕ) (vs later : List ℕ) (w : WrittenTo e l 
 
 -- A slot's command comes first of those from it on.
 pub rest-more : (N : Network) (k : ℕ) → k < 64 → rest N k (64 - k) ≡ edgeCommand N k ++ rest N (suc k) (64 - suc k)
-unfolding rest flatMap range
-rest-more N k l =
-    let more : 64 - k ≡ suc (64 - suc k) = omega arith in
-    ap (rest N k) more ∙ append-assoc (edgeCommand N k) (flatMap (edgeCommand N) (range (suc k) (64 - suc k))) (0x45 ∷ [])
+rest-more N k l = let more : 64 - k ≡ suc (64 - suc k) = omega arith in ap (rest N k) more ∙ rest-first N k (64 - suc k)
 
 -- A slot's command, written where the commands from it on are left.
 module _ (N : Network) (l p : List ℕ) (at k : ℕ) (vs : List ℕ) (h : k < 64) (same : vs ≡ edgeCommand N k) (w : WrittenTo (encodeOf N) l at p)
@@ -319,12 +283,3 @@ module _ (N : Network) (l p : List ℕ) (at k : ℕ) (vs : List ℕ) (h : k < 64
 
   pub slots-left : drop (at + length vs) (encodeOf N) ≡ rest N (suc k) (64 - suc k)
   slots-left = left-next (encodeOf N) l p at vs (rest N (suc k) (64 - suc k)) w next-slot
-
--- After the header come all slots, and after the last slot the end.
-pub rest-all : (N : Network) → drop 5 (encodeOf N) ≡ rest N 0 64
-unfolding encodeOf rest
-rest-all N = refl
-
-pub rest-none : (N : Network) → rest N 64 0 ≡ 0x45 ∷ []
-unfolding rest range flatMap
-rest-none N = refl

@@ -17,11 +17,12 @@ pub struct Encoded {
 }
 
 // The command that the reader waits for: 50; 53, with the number of nodes; 43 or 45, with the number of nodes and the least edge
-// number allowed.
+// number allowed; a 4D that may stand there, with the number of the edge just before.
 pub enum Awaited {
     Size,
     Terminals(u8),
     Edge(u8, u8),
+    Length(u8),
 }
 
 // What a command gives: its values, the end, or a refusal.
@@ -29,6 +30,7 @@ pub enum Step {
     Size(u8),
     Terminals(u8, u8),
     Edge(u8, u8, u8),
+    Length(u16),
     End,
     Refused(u8),
 }

@@ -97,13 +97,16 @@ module _ (N M : Network) (a : Agree N M) where
   minpaths-agree r = (minpath-agrees N M a r, minpath-agrees M N (turned a) r)
 
   -- Without the edges of d they agree too.
-  without-agree : (d : ℕ) → Agree (without N d) (without M d)
+  pub without-agree : (d : ℕ) → Agree (without N d) (without M d)
   unfolding only
   without-agree d = record {
     source = a .source;
     sink = a .sink;
     joins = λ e u v ne. (outside-agrees N M a d e u v ne, outside-agrees M N (turned a) d e u v ne);
   }
+
+  pub side-agree : (c v : ℕ) → OnSourceSide N c v ↔ OnSourceSide M c v
+  side-agree c v = (side-agrees N M a c v, side-agrees M N (turned a) c v)
 
   module _ (S : Sound N) (T : Sound M) where
     -- A set of edges severs both or neither.
@@ -129,4 +132,4 @@ module _ (N M : Network) (a : Agree N M) where
 
     pub sides-agree : (c : ℕ) → sourceSideOf N c ≡ sourceSideOf M c
     sides-agree c = same-set (λ v.
-        Iff·trans (in-sourceSideOf N S c v) (Iff·trans (side-agrees N M a c v, side-agrees M N (turned a) c v) (Iff·symm (in-sourceSideOf M T c v))))
+        Iff·trans (in-sourceSideOf N S c v) (Iff·trans (side-agree c v) (Iff·symm (in-sourceSideOf M T c v))))

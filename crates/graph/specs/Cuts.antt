@@ -19,7 +19,7 @@ use Rattle.network.specs.declared.Network.{Network}
 use Rattle.graph.specs.Paths.{Hop, Leads, nodesFrom, edgesOf, Minpath}
 
 unfoldable pub only : Network → ℕ → Network
-only N h = rewired N h (N .first) (N .second)
+only N h = rewired N h (N .first) (N .second) (N .metres)
 
 abbrev pub without : Network → ℕ → Network
 without N c = only N (present N ∖ c)

@@ -1,6 +1,6 @@
 // The list program: reads a plan from standard input and prints its minimal cuts, or why it is refused.
 //
-// It reads up to 265 bytes, enough to decide any plan. All that it prints is made in one page of memory by `report`, whose contract says
+// It reads up to 521 bytes, enough to decide any plan. All that it prints is made in one page of memory by `report`, whose contract says
 // what that is, and written out at once. No list is lost without a word: standard error says if a read failed, and then nothing is
 // printed, or if standard output did not take all of the page.
 use libc::STDERR_FILENO;

@@ -8,7 +8,7 @@ use lib.Dec.{T, ltb}
 use Rattle.sequences.specs.Words.{range}
 use Rattle.node_set.specs.Width.{nodeWidth}
 use Rattle.network.specs.declared.Network.{Network}
-use Rattle.network.specs.Record.{_then_, among, sizeFault, terminalFault, endFault, absentFault, hasEdge, firstEnd, secondEnd, slotFault, slotsFault, recordRefusals, faultUpTo, faultOf}
+use Rattle.network.specs.Record.{_then_, among, sizeFault, terminalFault, endFault, absentFault, hasEdge, firstEnd, secondEnd, metresOf, slotFault, slotsFault, recordRefusals, faultUpTo, faultOf}
 use Rattle.network.proofs.Refusals.{then-among, when-among, outside-among, terminals-among}
 
 abbrev Kept : ℕ → Type 0
@@ -19,9 +19,9 @@ slot-among : (N : Network) (k : ℕ) → Kept (slotFault N k)
 unfolding among slotFault absentFault
 slot-among N k = go (hasEdge N k)
   where
-    go : (b : Bool) → Kept (cond b (endFault (N .nodes) (firstEnd N k) (secondEnd N k)) (absentFault (firstEnd N k) (secondEnd N k)))
+    go : (b : Bool) → Kept (cond b (endFault (N .nodes) (firstEnd N k) (secondEnd N k)) (absentFault (firstEnd N k) (secondEnd N k) (metresOf N k)))
     go true = outside-among recordRefusals 9 (N .nodes) (firstEnd N k) (secondEnd N k) tt
-    go false = when-among recordRefusals 13 (ltb 0 (firstEnd N k) || ltb 0 (secondEnd N k)) tt
+    go false = when-among recordRefusals 13 (ltb 0 (firstEnd N k) || ltb 0 (secondEnd N k) || ltb 0 (metresOf N k)) tt
 
 -- The first fault of some slots.
 slots-among : (N : Network) (n k : ℕ) → Kept (slotsFault N k n)

@@ -7,7 +7,7 @@ use mathlib.Core.Logic.{inl, inr}
 use Prim.Native.Nat.{ℕ, zero, suc, _≤_, _<_}
 use native.Mathlib.Omega.{arith}
 use borrow.Author.Tests.{ltb-false, leb-false, eqb-false}
-use lib.Dec.{T, leb, ltb, eqb, ltb→lt}
+use lib.Dec.{T, leb, ltb, eqb}
 use Rattle.sequences.specs.Words.{every}
 use Rattle.sequences.proofs.Tests.{T-or, T-then, T-eqb}
 use Rattle.network.specs.Record.{_when_, _then_, among, unlessRefused, sizeFault, outsideFault, terminalFault}
@@ -93,15 +93,15 @@ unfolding _when_
 when-among l r true p = p
 when-among l r false p = among-none l
 
--- What is among numbers below m is below m.
-pub among-lt : (m : ℕ) (l : List ℕ) → 0 < m → T (every (λ k. ltb k m) l) → (r : ℕ) → T (among l r) → r < m
+-- What all numbers pass, a refusal among them passes.
+pub among-every : (p : ℕ → Bool) (l : List ℕ) → T (every p l) → (r : ℕ) → 0 < r → T (among l r) → T (p r)
 unfolding among every
-among-lt m [] p t r a = rw (T-eqb r 0 .0 a) p
-among-lt m (k ∷ l) p t r a =
-    let below = T-then (ltb k m) (every (λ k. ltb k m) l) .0 t in
-    elim (T-or (eqb r k) (among l r) .0 a) [ inl e ↦ rw (T-eqb r k .0 e) (ltb→lt k m (below .0)) | inr c ↦ among-lt m l p (below .1) r c ]
+among-every p [] t r h a = absurd (omega (arith, T-eqb r 0 .0 a))
+among-every p (k ∷ l) t r h a =
+    let both = T-then (p k) (every p l) .0 t in
+    elim (T-or (eqb r k) (among l r) .0 a) [ inl e ↦ rw (T-eqb r k .0 e) (both .0) | inr c ↦ among-every p l (both .1) r h c ]
 
--- So is that of two nodes that must be below the node count.
+-- The fault of two nodes that must be below the node count is among them if its number is.
 pub outside-among : (l : List ℕ) (r n a b : ℕ) → T (among l r) → T (among l (outsideFault r n a b))
 unfolding outsideFault
 outside-among l r n a b p = when-among l r (leb n a || leb n b) p

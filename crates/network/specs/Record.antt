@@ -11,7 +11,7 @@
 --   outsideFault r n a b     the refusal r of two points of which one is not below the point count n
 --   terminalFault n a b      that of server and room (5, 6)
 --   endFault n a b   that of a cable's two ends (9); they may be one point
---   absentFault a b  that of an absent cable's two ends (13)
+--   absentFault a b m    that of an absent cable's two ends and metres (13)
 --
 -- The record test:
 --   slots            the numbers of the 64 edge slots, rising
@@ -19,7 +19,8 @@
 --   hasEdge N k      whether edge k is present
 --   firstEnd N k     its first end
 --   secondEnd N k    its second end
---   Slot             what a slot holds: whether its edge is present, and its two ends
+--   metresOf N k     its length in metres, 0 if it is not measured
+--   Slot             what a slot holds: whether its edge is present, its two ends, and its metres
 --   slot N k         what slot k holds
 --   slotFaultOf n s  the fault of a slot that holds s, where there are n nodes
 --   slotFault N k    the fault of slot k
@@ -30,11 +31,11 @@
 --   setFault N c     the refusal of a call on N and a set of edges c: the record's first fault, then 14 for an edge that is not present
 --
 -- Records:
---   assembled nodes source sink edges first second     a network from its fields
---   rewired N edges first second     N with other edges
+--   assembled nodes source sink edges first second metres      a network from its fields
+--   rewired N edges first second metres      N with other edges
 --   bare n s t       the network of n nodes with source s, sink t and no edge
 --   noNetwork        the all-zero record
---   withEdge N k a b     N with the edge k from a to b
+--   withEdge N k a b m   N with the edge k from a to b, m metres long
 --   Stored N         what the types of the code say of any record
 use mathlib.Core.Bool.{Bool, cond, not, _||_}
 use mathlib.Core.List.{List, [], _∷_, map, foldr}
@@ -85,9 +86,9 @@ terminalFault n a b = outsideFault 5 n a b then 6 when eqb a b
 abbrev pub endFault : ℕ → ℕ → ℕ → ℕ
 endFault = outsideFault 9
 
--- 13: an absent cable with an end not 0
-unfoldable pub absentFault : ℕ → ℕ → ℕ
-absentFault a b = 13 when (ltb 0 a || ltb 0 b)
+-- 13: an absent cable with an end or metres not 0
+unfoldable pub absentFault : ℕ → ℕ → ℕ → ℕ
+absentFault a b m = 13 when (ltb 0 a || ltb 0 b || ltb 0 m)
 
 -- ---- the record test
 
@@ -99,7 +100,7 @@ slots = range 0 64
 abbrev pub present : Network → ℕ
 present N = N .present .0
 
--- Edge k is present, and its two ends.
+-- Edge k is present, its two ends, and its length.
 abbrev pub hasEdge : Network → ℕ → Bool
 hasEdge N k = has (present N) k
 
@@ -109,16 +110,19 @@ firstEnd N k = getD (N .first) k 0
 abbrev pub secondEnd : Network → ℕ → ℕ
 secondEnd N k = getD (N .second) k 0
 
--- What slot k holds: whether its edge is present, and its ends.
+abbrev pub metresOf : Network → ℕ → ℕ
+metresOf N k = getD (N .metres) k 0
+
+-- What slot k holds: whether its edge is present, its ends, and its metres.
 abbrev pub Slot : Type 0
-Slot = Bool × ℕ × ℕ
+Slot = Bool × ℕ × ℕ × ℕ
 
 abbrev pub slot : Network → ℕ → Slot
-slot N k = (hasEdge N k, firstEnd N k, secondEnd N k)
+slot N k = (hasEdge N k, firstEnd N k, secondEnd N k, metresOf N k)
 
--- 9 if present, 13 if absent
+-- 9 if present, whatever its metres; 13 if absent
 abbrev pub slotFaultOf : ℕ → Slot → ℕ
-slotFaultOf n s = cond (s .0) (endFault n (s .1) (s .2)) (absentFault (s .1) (s .2))
+slotFaultOf n s = cond (s .0) (endFault n (s .1) (s .2)) (absentFault (s .1) (s .2) (s .3))
 
 unfoldable pub slotFault : Network → ℕ → ℕ
 slotFault N k = slotFaultOf (N .nodes) (slot N k)
@@ -145,31 +149,33 @@ setFault N c = faultOf N then 14 when not (eqb (bitAnd c (present N)) c)
 -- ---- records
 
 -- A network from its fields: here alone they are put together.
-abbrev pub assembled : ℕ → ℕ → ℕ → ℕ → List ℕ → List ℕ → Network
-assembled nodes source sink edges first second = record {
+abbrev pub assembled : ℕ → ℕ → ℕ → ℕ → List ℕ → List ℕ → List ℕ → Network
+assembled nodes source sink edges first second metres = record {
   nodes = nodes;
   source = source;
   sink = sink;
   present = record { 0 = edges };
   first = first;
   second = second;
+  metres = metres;
 }
 
--- The nodes and terminals of N with other edges: those present, and the ends in each slot.
-abbrev pub rewired : Network → ℕ → List ℕ → List ℕ → Network
-rewired N edges first second = assembled (N .nodes) (N .source) (N .sink) edges first second
+-- The nodes and terminals of N with other edges: those present, and the ends and metres in each slot.
+abbrev pub rewired : Network → ℕ → List ℕ → List ℕ → List ℕ → Network
+rewired N edges first second metres = assembled (N .nodes) (N .source) (N .sink) edges first second metres
 
 unfoldable pub bare : ℕ → ℕ → ℕ → Network
-bare n s t = assembled n s t 0 (replicate 64 0) (replicate 64 0)
+bare n s t = assembled n s t 0 (replicate 64 0) (replicate 64 0) (replicate 64 0)
 
 abbrev pub noNetwork : Network
 noNetwork = bare 0 0 0
 
-unfoldable pub withEdge : Network → ℕ → ℕ → ℕ → Network
-withEdge N k a b = rewired N (insert (present N) k) (set (N .first) k a) (set (N .second) k b)
+unfoldable pub withEdge : Network → ℕ → ℕ → ℕ → ℕ → Network
+withEdge N k a b m = rewired N (insert (present N) k) (set (N .first) k a) (set (N .second) k b) (set (N .metres) k m)
 
 -- What the types of the code say of any record: 64 slots, and no edge past them.
 pub record Stored (N : Network) : Type 0 where
   pub firsts : length (N .first) ≡ 64
   pub seconds : length (N .second) ≡ 64
+  pub lengths : length (N .metres) ≡ 64
   pub edges : present N < 2 ^ 64

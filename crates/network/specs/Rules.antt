@@ -9,13 +9,13 @@ use Prim.Native.Nat.{ℕ, _≤_, _<_}
 use Rattle.bitset.specs.Members.{_∈_}
 use Rattle.node_set.specs.Width.{nodeWidth}
 use Rattle.network.specs.declared.Network.{Network}
-use Rattle.network.specs.Record.{firstEnd, secondEnd, present, Stored}
+use Rattle.network.specs.Record.{firstEnd, secondEnd, metresOf, present, Stored}
 
 pub record Rules (N : Network) : Type 0 where
   pub size : (2 ≤ N .nodes) × (N .nodes ≤ nodeWidth)
   pub terminals : (N .source < N .nodes) × (N .sink < N .nodes) × (N .source ≡ N .sink → ⊥)
   pub ends : (k : ℕ) → k < 64 → k ∈ present N → (firstEnd N k < N .nodes) × (secondEnd N k < N .nodes)
-  pub absent : (k : ℕ) → k < 64 → (k ∈ present N → ⊥) → (firstEnd N k ≡ 0) × (secondEnd N k ≡ 0)
+  pub absent : (k : ℕ) → k < 64 → (k ∈ present N → ⊥) → (firstEnd N k ≡ 0) × (secondEnd N k ≡ 0) × (metresOf N k ≡ 0)
 
 pub record FaultMeans (N : Network) (r : ℕ) : Type 0 where
   pub stored : Stored N

@@ -58,8 +58,8 @@ pub fn end_fault(nodes: u8, first: u8, second: u8) -> u8
     outside_fault(END_OUTSIDE, nodes, first, second)
 }
 
-fn absent_fault(first: u8, second: u8) -> u8
-    ensures { λ r. ⌜ r ≡ absentFault first second ⌝ }
+fn absent_fault(first: u8, second: u8, metres: u16) -> u8
+    ensures { λ r. ⌜ r ≡ absentFault first second metres ⌝ }
 {
     if 0 < first {
         return ABSENT_EDGE_NOT_ZERO;
@@ -67,17 +67,20 @@ fn absent_fault(first: u8, second: u8) -> u8
     if 0 < second {
         return ABSENT_EDGE_NOT_ZERO;
     }
+    if 0 < metres {
+        return ABSENT_EDGE_NOT_ZERO;
+    }
     0
 }
 
-// The fault of a slot that holds these ends, with its edge present or not.
-fn slot_fault(nodes: u8, present: bool, first: u8, second: u8) -> u8
-    ensures { λ r. ⌜ r ≡ slotFaultOf nodes (present, first, second) ⌝ }
+// The fault of a slot that holds these ends and metres, with its edge present or not.
+fn slot_fault(nodes: u8, present: bool, first: u8, second: u8, metres: u16) -> u8
+    ensures { λ r. ⌜ r ≡ slotFaultOf nodes (present, first, second, metres) ⌝ }
 {
     if present {
         end_fault(nodes, first, second)
     } else {
-        absent_fault(first, second)
+        absent_fault(first, second, metres)
     }
 }
 
@@ -94,6 +97,7 @@ fn slots_fault(network: Network) -> u8
             present.contains(k),
             network.first[at],
             network.second[at],
+            network.metres[at],
         );
         if fault != 0 {
             return fault;

@@ -18,7 +18,7 @@ pub use faults::size_fault;
 pub use faults::terminal_fault;
 
 // A network: `nodes` points numbered from 0, the server `source`, the room `sink`, and up to 64 cables.
-// Edge k is `first[k]` - `second[k]` if it is in `present`; the ends of an absent edge are both 0.
+// Edge k is `first[k]` - `second[k]` if it is in `present`, and `metres[k]` long, 0 meaning not measured; an absent edge has 0 for all three.
 pub struct Network {
     pub nodes: u8,
     pub source: u8,
@@ -26,4 +26,5 @@ pub struct Network {
     pub present: EdgeSet,
     pub first: [u8; 64],
     pub second: [u8; 64],
+    pub metres: [u16; 64],
 }

@@ -21,13 +21,15 @@ pub const EDGE_NUMBER_NOT_RISING: u8 = 8; // cable number not above the one befo
 
 pub const END_OUTSIDE: u8 = 9; // a cable end not below the point count
 
+pub const BAD_LENGTH: u8 = 28; // a length that is not of the cable just before it, or of 0 metres
+
 // By the program that calls.
 pub const ROWS_DIFFER: u8 = 11; // cut rows and side rows differ in number
 
 pub const TOO_MANY_CUTS: u8 = 12; // more minimal cuts than rows lent
 
-pub const ABSENT_EDGE_NOT_ZERO: u8 = 13; // an absent cable with an end not 0
+pub const ABSENT_EDGE_NOT_ZERO: u8 = 13; // an absent cable with an end or metres not 0
 
-pub const EDGE_NOT_PRESENT: u8 = 14; // a judged set holds a cable not present
+pub const EDGE_NOT_PRESENT: u8 = 14; // a given set holds a cable not present
 
 pub const BUFFER_TOO_SHORT: u8 = 15; // the plan needs more bytes than were lent

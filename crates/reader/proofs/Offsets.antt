@@ -1,9 +1,9 @@
 -- The steps at an offset of the plan: which answer each way through a step's code gives.
 -- Assumes nothing.
-use mathlib.Core.Bool.{true, false, not}
+use mathlib.Core.Bool.{true, false}
 use mathlib.Core.List.{List}
 use mathlib.Core.Path.{_≡_, sym, ap, _∙_}
-use Prim.Native.Nat.{ℕ, _+_, _-_, _≤_, _<_}
+use Prim.Native.Nat.{ℕ, _+_, _-_, _*_, _≤_, _<_}
 use native.Mathlib.Nat.{add-zero}
 use native.Mathlib.Omega.{arith}
 use lib.Dec.{eqb}
@@ -14,8 +14,8 @@ use Rattle.node_set.specs.Width.{nodeWidth}
 use Rattle.network.specs.Record.{_then_, sizeFault, terminalFault, endFault}
 use Rattle.network.proofs.Refusals.{none-then, some-then, some-when, none-when, refused-some}
 use Rattle.format.specs.declared.Step.{Step}
-use Rattle.format.specs.Format.{at, missing, unfit, numberFault, sizeRefusal, terminalsRefusal, edgeRefusal, endRefusal, answer, sizeStep, terminalsStep, edgeStep}
-use Rattle.format.proofs.Steps.{command, command-values, none-missing, none-unfit}
+use Rattle.format.specs.Format.{at, missing, unfit, numberFault, sizeRefusal, terminalsRefusal, edgeRefusal, endRefusal, lengthFault, metresIn, lengthRefusal, answer, sizeStep, terminalsStep, edgeStep, lengthStep}
+use Rattle.format.proofs.Steps.{command, command-unfit, command-values, none-missing, none-unfit}
 
 -- The byte at an offset is the first of what is left there.
 first-at : (l : List ℕ) (o : ℕ) → at (drop o l) 0 ≡ getD l o 0
@@ -32,11 +32,7 @@ module _ (c k : ℕ) (l : List ℕ) (o values : ℕ) where
 
   -- The command byte is another one.
   another-command : o < length l → (getD l o 0 ≡ c → ⊥) → command c k (drop o l) values ≡ 2
-  another-command h d =
-      none-then _ (command-there h)
-      ∙ ap (λ r. r then missing k (drop o l) then values)
-      (some-when 2 (ap not (ne-eqb (at (drop o l) 0) c (λ e. d (sym (first-at l o) ∙ e)))))
-      ∙ some-then 2 _ (omega arith)
+  another-command h d = command-unfit c k (drop o l) values (simp length-drop (omega arith)) (λ e. d (sym (first-at l o) ∙ e))
 
   -- The operands are not all there.
   operands-missing : o < length l → getD l o 0 ≡ c → length l - o < k → command c k (drop o l) values ≡ 1
@@ -140,3 +136,33 @@ module _ (l : List ℕ) (o : ℕ) where
           rw (not-end (edge-command f), whole-command 0x43 4 l o values h f (omega arith) m)
           (rw (getD-drop o l 1 0, getD-drop o l 2 0, getD-drop o l 3 0)
           (ap (λ x. answer x (Step.Edge (getD l (o + 1) 0) (getD l (o + 2) 0) (getD l (o + 3) 0))) e))
+
+  -- A length, straight after the edge `before`.
+  module _ (before : ℕ) where
+    -- Where another byte stands, or none, the edge is not measured.
+    pub length-another : (getD l o 0 ≡ 0x4D → ⊥) → Step.Length 0 ≡ lengthStep before (drop o l)
+    unfolding lengthStep
+    length-another d = rw (ne-eqb (at (drop o l) 0) 0x4D (λ e. d (sym (first-at l o) ∙ e)))
+
+    pub length-nothing : length l ≤ o → Step.Length 0 ≡ lengthStep before (drop o l)
+    length-nothing h =
+        let none : getD l o 0 ≡ 0 = List·getD-eq-default l 0 h in
+        length-another (λ e. let bad : _≡_ {A = ℕ} 0 0x4D = sym none ∙ e in omega arith)
+
+    is-length : getD l o 0 ≡ 0x4D → eqb (at (drop o l) 0) 0x4D ≡ true
+    is-length e = eq-eqb (at (drop o l) 0) 0x4D (first-at l o ∙ e)
+
+    pub length-missing : getD l o 0 ≡ 0x4D → length l - o < 4 → Step.Refused 1 ≡ lengthStep before (drop o l)
+    unfolding lengthStep lengthRefusal
+    length-missing f m =
+        let short : missing 4 (drop o l) ≡ 1 = some-when 1 (lt-ltb (length (drop o l)) 4 (simp length-drop m)) in
+        rw (is-length f, short, some-then 1 (lengthFault before (at (drop o l) 1) (metresIn (drop o l))) (omega arith))
+
+    pub length-values : (r : ℕ) → getD l o 0 ≡ 0x4D → 4 ≤ length l - o
+        → r ≡ lengthFault before (getD l (o + 1) 0) (getD l (o + 2) 0 * 256 + getD l (o + 3) 0)
+        → answer r (Step.Length (getD l (o + 2) 0 * 256 + getD l (o + 3) 0)) ≡ lengthStep before (drop o l)
+    unfolding lengthStep lengthRefusal _then_
+    length-values r f m e =
+        rw (is-length f, none-missing 4 (drop o l) (simp length-drop m))
+        (rw (getD-drop o l 1 0, getD-drop o l 2 0, getD-drop o l 3 0)
+        (ap (λ x. answer x (Step.Length (getD l (o + 2) 0 * 256 + getD l (o + 3) 0))) e))

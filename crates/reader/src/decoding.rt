@@ -9,7 +9,7 @@ ghost use mathlib.Core.Path.{_≡_};
 ghost use Prim.Native.Nat.{_<_};
 ghost use lib.ListN.{drop};
 ghost use Rattle.network.specs.Record.{bare, withEdge};
-ghost use Rattle.format.specs.Format.{told, accept, refuse, ifTaken, walk, decodeOf};
+ghost use Rattle.format.specs.Format.{told, accept, refuse, ifTaken, lengthSize, walk, decodeOf};
 ghost use Rattle.format.specs.Meaning.{ReadMeans};
 
 // The paper's number of an answer.
@@ -20,6 +20,7 @@ fn number(step: Step) -> u8
         Step::Size(_) => 0,
         Step::Terminals(_, _) => 0,
         Step::Edge(_, _, _) => 0,
+        Step::Length(_) => 0,
         Step::End => 0,
         Step::Refused(refusal) => refusal,
     }
@@ -36,6 +37,7 @@ fn bare_network(nodes: u8, source: u8, sink: u8) -> Network
         present: EdgeSet::empty(),
         first: [0u8; 64],
         second: [0u8; 64],
+        metres: [0u16; 64],
     }
 }
 
@@ -50,9 +52,9 @@ fn refused(refusal: u8) -> Decoded
 }
 
 // The network with one edge more.
-fn with_edge(network: Network, edge: u8, first: u8, second: u8) -> Network
+fn with_edge(network: Network, edge: u8, first: u8, second: u8, metres: u16) -> Network
     requires { ⌜ edge < 64 ⌝ }
-    ensures { λ r. ⌜ r ≡ withEdge network edge first second ⌝ }
+    ensures { λ r. ⌜ r ≡ withEdge network edge first second metres ⌝ }
 {
     let mut next = network;
     let present = network.present;
@@ -61,6 +63,7 @@ fn with_edge(network: Network, edge: u8, first: u8, second: u8) -> Network
     next.present = grown;
     next.first[at] = first;
     next.second[at] = second;
+    next.metres[at] = metres;
     next
 }
 
@@ -78,7 +81,14 @@ fn ended(step: Step, network: Network) -> Decoded
     }
 }
 
-// The edge commands from the offset `from` on, and the end, read into a network.
+// How many bytes there are of a length: none of 0 metres.
+fn length_size(metres: u16) -> usize
+    ensures { λ r. ⌜ r ≡ lengthSize metres ⌝ }
+{
+    if metres == 0 { 0 } else { 4 }
+}
+
+// The edge commands from the offset `from` on, each with its length, and the end, read into a network.
 fn decode_edges(plan: &[u8], from: usize, bare: Network) -> Decoded
     ensures { λ r. ⌜ r ≡ walk bare 0 (drop from (now (plan .entry))) ⌝ }
 {
@@ -90,9 +100,13 @@ fn decode_edges(plan: &[u8], from: usize, bare: Network) -> Decoded
         let Step::Edge(edge, first, second) = step else {
             return ended(step, network);
         };
-        network = with_edge(network, edge, first, second);
+        let length = next_command(plan, at + 4, Awaited::Length(edge));
+        let Step::Length(metres) = length else {
+            return refused(number(length));
+        };
+        network = with_edge(network, edge, first, second, metres);
         next = edge + 1;
-        at = at + 4;
+        at = at + 4 + length_size(metres);
     }
 }
 

@@ -109,13 +109,13 @@ module _ (s : List ℕ) (d : Decoded) (read : d ≡ decodeOf s) where
         → l .refusal ≡ 0 → reportOf s ≡ listText (take (l .count) cuts′) (take (l .count) sides′)
     report-listed p q z = report-network ∙ case-listed (d .network) cuts sides l answer p q (call-case (d .network) cuts sides accepted c t) z
 
--- The first 265 bytes decide what is reported.
-pub report-prefix : (s : List ℕ) → reportOf (take 265 s) ≡ reportOf s
+-- The first 521 bytes decide what is reported.
+pub report-prefix : (s : List ℕ) → reportOf (take 521 s) ≡ reportOf s
 unfolding reportOf
 report-prefix s = rw (decode-prefix s)
 
--- So bytes p that are the first 265 of s are reported as all of s.
-pub report-whole : {p q : List ℕ} {n : ℕ} (s : List ℕ) → p ≡ q → n ≡ 265 → q ≡ take n s → reportOf s ≡ reportOf p
+-- So bytes p that are the first 521 of s are reported as all of s.
+pub report-whole : {p q : List ℕ} {n : ℕ} (s : List ℕ) → p ≡ q → n ≡ 521 → q ≡ take n s → reportOf s ≡ reportOf p
 report-whole s e size f = sym (ap reportOf (e ∙ f ∙ ap (λ (k : ℕ). take k s) size) ∙ report-prefix s)
 
 -- So the report is that of the bytes read.

@@ -7,7 +7,7 @@ ghost use lib.ListN.{take};
 ghost use Rattle.report.specs.Report.{Reported};
 
 // So many bytes decide any plan: a 65th cable's command ends there at the latest, and is always refused.
-pub const DECIDING: usize = 265;
+pub const DECIDING: usize = 521;
 
 // The first `count` bytes; all of them, if there are fewer.
 fn first(bytes: &[u8], count: usize) -> &[u8]

@@ -1,13 +1,18 @@
--- How many members of a list pass a test, and lists that differ in the order of their members alone.
+-- Sums, how many members of a list pass a test, and lists that differ in the order of their members alone.
 -- To believe.
 --
+--   sum l                the sum of the numbers of l
 --   bit b                1 if b holds, else 0  [working]
 --   countIf p l          how many members of l pass the test p
 --   Permutation l m      each test is passed by as many members of l as of m; so each member stands in both equally often  [working]
 use mathlib.Core.Path.{_≡_}
 use mathlib.Core.Bool.{Bool, true, false}
 use mathlib.Core.List.{List, [], _∷_}
-use Prim.Native.Nat.{ℕ, suc}
+use Prim.Native.Nat.{ℕ, suc, _+_}
+
+unfoldable pub sum : List ℕ → ℕ
+sum [] = 0
+sum (x ∷ l) = x + sum l
 
 abbrev pub bit : Bool → ℕ
 bit true = 1

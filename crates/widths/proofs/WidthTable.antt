@@ -15,10 +15,10 @@ use lib.ListN.{length, getD, set, take, replicate, length-set}
 use lib.Seq.{take-suc, take-length, length-take-le, ext-getD, getD-set-same, getD-set-other}
 use Rattle.bitset.specs.Members.{size}
 use Rattle.bitset.proofs.Size.{size-le}
-use Rattle.sequences.specs.Counts.{bit, countIf}
+use Rattle.sequences.specs.Counts.{sum, bit, countIf}
 use Rattle.sequences.specs.Words.{tabulate}
 use Rattle.sequences.proofs.Places.{length-tabulate, getD-tabulate}
-use Rattle.widths.specs.Widths.{sum, widthsOf}
+use Rattle.widths.specs.Widths.{widthsOf}
 use Rattle.sequences.proofs.Counts.{count-nil, count-cons, count-append, count-le}
 
 -- A width has a place in the table.

@@ -14,7 +14,8 @@ use Rattle.network.proofs.Refusals.{then-none, refused-some}
 use Rattle.format.specs.declared.Encoded.{Encoded}
 use Rattle.format.specs.Format.{accept, decodeOf, encodeOf, encodeRefusal, encodedBy, bytesAfter, WrittenTo}
 use Rattle.format.specs.Meaning.{WrittenMeans}
-use Rattle.format.proofs.Writing.{encode-decode, rest, rest-all, written-length, written-next, next-room, encode-size}
+use Rattle.format.proofs.Commands.{rest, rest-all, rest-some, encode-size}
+use Rattle.format.proofs.Writing.{encode-decode, written-length, written-next, next-room}
 
 -- What the writer answers and leaves.
 abbrev pub Answered : Network → List ℕ → Encoded → List ℕ → Type 0
@@ -106,7 +107,7 @@ module _ (N : Network) (l : List ℕ) (room : length (encodeOf N) ≤ length l) 
       bytes =
           w .bytes
           ∙ ap (λ x. take r (encodeOf N) ++ x)
-          (past-written (encodeOf N) l 5 headed header-written r (omega (arith, last-byte, encode-size N)));
+          (past-written (encodeOf N) l 5 headed header-written r (omega (arith, last-byte, encode-size N, rest-some N 0 64)));
     }
 
     all-written : WrittenTo (encodeOf N) l (r + 1) (set p r 0x45)

@@ -14,6 +14,9 @@
 //!   --without-loops
 //!                  with --digest: leaves out the cases in which a cable has both ends at one point, so
 //!                  that a library that refuses such cables gives the same number
+//!   --without-lengths
+//!                  with --digest: leaves the lengths out of the cases, and the cases that hold the
+//!                  byte 4D besides, so that a library without lengths gives the same number
 
 use std::env;
 use std::fs;
@@ -48,6 +51,7 @@ struct Options {
     smoke: bool,
     digest: bool,
     without_loops: bool,
+    without_lengths: bool,
 }
 
 impl Options {
@@ -66,11 +70,17 @@ impl Options {
                 "--smoke" => options.smoke = true,
                 "--digest" => options.digest = true,
                 "--without-loops" => options.without_loops = true,
+                "--without-lengths" => options.without_lengths = true,
                 _ => return Err(format!("{name} is no option")),
             }
         }
-        if options.without_loops && !options.digest {
-            return Err("--without-loops goes with --digest alone".into());
+        for (given, name) in [
+            (options.without_loops, "--without-loops"),
+            (options.without_lengths, "--without-lengths"),
+        ] {
+            if given && !options.digest {
+                return Err(format!("{name} goes with --digest alone"));
+            }
         }
         Ok(options)
     }
@@ -94,13 +104,15 @@ fn main() -> ExitCode {
 /// Says the number of all answers of the library.
 fn tell_digest(options: &Options) -> ExitCode {
     let seed = options.seed.unwrap_or(FIXED_SEED);
-    let cases = 0..options.cases.unwrap_or(FIXED_CASES);
-    let cases = cases.map(|case| making::bytes(seed, case));
-    let number = match options.without_loops {
-        true => digest(cases.filter(|bytes| !Case::of(bytes).has_loop())),
-        false => digest(cases),
+    let make = match options.without_lengths {
+        true => making::unmeasured,
+        false => making::bytes,
     };
-    println!("{number:016x}");
+    let cases = (0..options.cases.unwrap_or(FIXED_CASES))
+        .map(|case| make(seed, case))
+        .filter(|bytes| !options.without_loops || !Case::of(bytes).has_loop())
+        .filter(|bytes| !options.without_lengths || !bytes.contains(&0x4D));
+    println!("{:016x}", digest(cases));
     ExitCode::SUCCESS
 }
 

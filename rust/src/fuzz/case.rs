@@ -1,20 +1,23 @@
 //! A byte string taken apart: a head of settings, in which missing bytes count as 0, and a body, the
 //! bytes for the reader and for the record. Every byte string is a case, and every value of each byte
-//! means something.
+//! means something. A case without the byte 4D has no lengths.
 
 use std::array;
 
+use crate::brute::members;
 use crate::record::{Record, MOST_NODES, SLOTS};
 
 /// Bytes in the head.
 pub const HEAD: usize = 22;
 
 /// Values of the head's second byte: the record is that of the body's plan, its values made to fit
-/// if they are not; or the body is the bytes of the record itself.
+/// if they are not; or the body is the bytes of the record itself, `FIELDS` of them and then lengths
+/// as in a plan, for any slots.
 pub const FITTED: u8 = 0;
 pub const RAW: u8 = 3;
 
-/// Bytes in a record: point count, server, room, the set of cables present, the ends of each cable.
+/// Bytes in a record but for its metres: point count, server, room, the set of cables present, the
+/// ends of each cable.
 pub const FIELDS: usize = 3 + 8 + 2 * SLOTS;
 
 /// What is asked.
@@ -28,7 +31,8 @@ pub struct Case<'a> {
     pub beyond: &'a [u8],
     /// The record for the other calls.
     pub record: Record,
-    /// The buffer lent to the writer, measured from the plan's length and the longest plan's.
+    /// The buffer lent to the writer, measured from the plan's length and the longest plan's, with
+    /// or without lengths.
     pub buffer: Size,
     /// The cut rows lent to the list call, measured from the number of cuts and the number of sets
     /// of useful points between server and room.
@@ -90,21 +94,26 @@ impl Case<'_> {
         let behind = usize::from(behind.saturating_sub(128) % 16).min(body.len());
         let (plan, beyond) = body.split_at(body.len() - behind);
 
-        let mut fields = match origin % 4 {
-            FITTED..RAW => fields(&fitted(body)),
-            _ => padded(body),
+        let given = match origin % 4 {
+            FITTED..RAW => fitted(body),
+            _ => raw(body),
         };
         // In three of eight cases, one to three bytes of the record are replaced.
+        let mut fields = fields(&given);
         let patched = usize::from(patched % 8).saturating_sub(4);
         for &[place, value] in &patches[..patched] {
             fields[usize::from(place) % FIELDS] = value;
         }
+        let record = Record {
+            metres: given.metres,
+            ..record(&fields)
+        };
 
         Case {
             body,
             plan,
             beyond,
-            record: record(&fields),
+            record,
             buffer,
             rows,
             // In three of four cases, as many side rows as cut rows.
@@ -119,7 +128,7 @@ impl Case<'_> {
     /// Whether a cable of the record or of the plan has both ends at one point.
     pub fn has_loop(&self) -> bool {
         let is_loop = |command: &[u8]| command[0] == 0x43 && command[2] == command[3];
-        self.record.loops() != 0 || cables(self.plan).any(is_loop)
+        self.record.loops() != 0 || commands(self.plan).any(is_loop)
     }
 }
 
@@ -148,7 +157,7 @@ pub fn words(body: &[u8]) -> Vec<u64> {
         .collect()
 }
 
-/// The bytes of a record, in the order of `FIELDS`.
+/// The bytes of a record but for its metres, in the order of `FIELDS`.
 pub fn fields(record: &Record) -> [u8; FIELDS] {
     let mut fields = [0; FIELDS];
     fields[..3].copy_from_slice(&[record.nodes, record.source, record.sink]);
@@ -160,7 +169,7 @@ pub fn fields(record: &Record) -> [u8; FIELDS] {
     fields
 }
 
-/// The record of these bytes, whatever they are.
+/// The record of these bytes, whatever they are, unmeasured.
 pub fn record(fields: &[u8; FIELDS]) -> Record {
     let mut record = Record {
         present: u64::from_le_bytes(padded(&fields[3..11])),
@@ -173,8 +182,33 @@ pub fn record(fields: &[u8; FIELDS]) -> Record {
     record
 }
 
-/// The bytes in the places of cables' commands.
-fn cables(plan: &[u8]) -> impl Iterator<Item = &[u8]> {
+/// A record of which anything may stand in the bytes.
+pub fn raw(body: &[u8]) -> Record {
+    let lengths = body.get(FIELDS..).unwrap_or_default().chunks_exact(4);
+    lengths
+        .filter(|command| command[0] == 0x4D)
+        .fold(record(&padded(body)), |raw, command| {
+            raw.with_metres(usize::from(command[1]) % SLOTS, metres(command))
+        })
+}
+
+/// The bytes of which this is the raw record.
+pub fn raw_bytes(record: &Record) -> Vec<u8> {
+    let mut bytes = fields(record).to_vec();
+    for edge in members(record.measured()) {
+        let [high, low] = record.metres[edge].to_be_bytes();
+        bytes.extend([0x4D, edge as u8, high, low]);
+    }
+    bytes
+}
+
+/// The metres that the command of a length gives.
+fn metres(command: &[u8]) -> u16 {
+    u16::from_be_bytes([command[2], command[3]])
+}
+
+/// The bytes in the places of the commands for cables and lengths.
+fn commands(plan: &[u8]) -> impl Iterator<Item = &[u8]> {
     plan.get(5..).unwrap_or_default().chunks_exact(4)
 }
 
@@ -188,9 +222,16 @@ pub fn fitted(body: &[u8]) -> Record {
     };
     let (source, sink) = apart(nodes, at(3), at(4));
     let mut fitted = Record::bare(nodes, source, sink);
-    for command in cables(body) {
-        let edge = usize::from(command[1]) % SLOTS;
-        fitted = fitted.with(edge, command[2] % nodes, command[3] % nodes);
+    let mut last = None;
+    for command in commands(body) {
+        fitted = match last {
+            Some(edge) if command[0] == 0x4D => fitted.with_metres(edge, metres(command)),
+            _ => {
+                let edge = usize::from(command[1]) % SLOTS;
+                last = Some(edge);
+                fitted.with(edge, command[2] % nodes, command[3] % nodes)
+            }
+        };
     }
     fitted
 }

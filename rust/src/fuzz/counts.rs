@@ -5,8 +5,9 @@ use std::fmt;
 use crate::answers::Part;
 use crate::answers::Verdict::{Minimal, NotCut, NotMinimal};
 use crate::brute::members;
+use crate::plans;
 use crate::record::{Record, MOST_NODES};
-use crate::reference::{FAULTS, READING};
+use crate::reference::{self, FAULTS, LONGEST_PLAN, READING};
 use crate::tally::{Tally, Verdicts};
 
 /// Questions by function and answer.
@@ -18,6 +19,7 @@ pub struct Counts {
     pub encode: Tally,
     pub relevant: Tally,
     pub classify: Tally,
+    pub metres: Tally,
     pub list: Tally,
     pub widths: u64,
     pub verdicts: Verdicts,
@@ -32,9 +34,36 @@ pub struct Counts {
     pub looped: u64,
     pub useful_looped: u64,
     pub loops_added: u64,
+    /// Plans read that have a length, and the bytes of the longest.
+    pub measured_plans: u64,
+    pub most_bytes: usize,
+    /// Records that have no fault but the metres of absent cables.
+    pub absent_measured: u64,
+    /// Totals that take more than 16 bits, and the largest.
+    pub large_totals: u64,
+    pub most_metres: u32,
 }
 
 impl Counts {
+    /// Notes a plan that was read.
+    pub fn read(&mut self, plan: &[u8]) {
+        let measured = plans::commands(plan).iter().any(|part| part[0] == 0x4D);
+        self.measured_plans += u64::from(measured);
+        self.most_bytes = self.most_bytes.max(plan.len());
+    }
+
+    /// Notes a record with a fault.
+    pub fn faulty(&mut self, record: &Record) {
+        let unmeasured = record.clone().unmeasured();
+        self.absent_measured += u64::from(reference::fault(&unmeasured).is_ok());
+    }
+
+    /// Notes a total.
+    pub fn added_up(&mut self, total: u32) {
+        self.large_totals += u64::from(total > u16::MAX.into());
+        self.most_metres = self.most_metres.max(total);
+    }
+
     /// Notes a hall with a complete list.
     pub fn listed(&mut self, rows: usize, part: Part) {
         match rows {
@@ -56,7 +85,7 @@ impl Counts {
     }
 
     /// Every refusal of every function occurred and no other, every verdict, short and long lists,
-    /// and loops.
+    /// loops and lengths.
     pub fn assert_wide(&self) {
         for (tally, of_the_plan, more) in [
             (&self.decode, READING, &[][..]),
@@ -64,6 +93,7 @@ impl Counts {
             (&self.relevant, FAULTS, &[]),
             (&self.encode, FAULTS, &[15]),
             (&self.classify, FAULTS, &[14]),
+            (&self.metres, FAULTS, &[14]),
             (&self.list, FAULTS, &[11, 12]),
         ] {
             let numbers = [&[0], of_the_plan, more].concat();
@@ -80,6 +110,11 @@ impl Counts {
         assert!(self.looped >= 10_000, "{self}");
         assert!(self.useful_looped >= 8_000, "{self}");
         assert!(self.loops_added >= 20_000, "{self}");
+        assert!(self.measured_plans >= 5_000, "{self}");
+        assert_eq!(self.most_bytes, LONGEST_PLAN, "{self}");
+        assert!(self.absent_measured >= 300, "{self}");
+        assert!(self.large_totals >= 10_000, "{self}");
+        assert!(self.most_metres >= 1_000_000, "{self}");
     }
 }
 
@@ -94,6 +129,7 @@ impl fmt::Display for Counts {
             ("encode", &self.encode),
             ("relevant", &self.relevant),
             ("classify", &self.classify),
+            ("metres", &self.metres),
             ("list", &self.list),
         ] {
             write!(f, " {name} {},", tally.total())?;
@@ -109,7 +145,9 @@ impl fmt::Display for Counts {
             f,
             " none ({}); judged: {not} no cut, {more} not minimal, {minimal} minimal; halls listed: \
              {} with one row, {} with up to {}, {} of them with a useful point above 31; up to {} useful points; \
-             {} halls with a loop, {} of them with one at a useful point, {} with one added",
+             {} halls with a loop, {} of them with one at a useful point, {} with one added; \
+             {} measured plans, plans of up to {} bytes, {} records with metres of absent cables alone; \
+             {} totals above 65535, up to {}",
             all.of(0),
             self.short_lists,
             self.longer_lists,
@@ -118,7 +156,12 @@ impl fmt::Display for Counts {
             self.most_points,
             self.looped,
             self.useful_looped,
-            self.loops_added
+            self.loops_added,
+            self.measured_plans,
+            self.most_bytes,
+            self.absent_measured,
+            self.large_totals,
+            self.most_metres
         )
     }
 }

@@ -1,13 +1,15 @@
 //! One number for all that the library answers to a run of cases: refusals, out parameters, and lent
 //! bytes and rows as the calls left them. A change that should change no answer leaves the number as
 //! it was. The reference has no part in it, and neither have names and types: a number counts as its
-//! eight bytes, whatever its width.
+//! eight bytes, whatever its width. Lengths count where there are any: a case without them gives the
+//! number that it gave before plans had them.
 
+use crate::brute::members;
 use crate::fuzz::case::{self, Case};
-use crate::fuzz::questions::{ample, lent_rows, needed_bytes, sets, LONGEST_LIST};
+use crate::fuzz::questions::{ample, lent_bytes, lent_rows, sets, LONGEST_LIST};
 use crate::lent;
 use crate::record::Record;
-use crate::reference::{Refusal, LONGEST_PLAN};
+use crate::reference::Refusal;
 use crate::rng::Rng;
 use crate::sys;
 
@@ -53,10 +55,13 @@ fn answers(case: &Case, digest: &mut Digest) {
     let (refusal, read) = sys::decode_before(case.plan, case.beyond);
     digest.number(refusal);
     digest.bytes(&case::fields(&read));
+    for edge in members(read.measured()) {
+        digest.numbers(&[edge as u64, read.metres[edge].into()]);
+    }
 
     digest.number(sys::fault(record));
 
-    let mut plan = rng.bytes(case.buffer.measured(needed_bytes(record), LONGEST_PLAN));
+    let mut plan = rng.bytes(lent_bytes(case));
     let (refusal, count) = sys::encode(record, &mut plan);
     digest.number(refusal);
     digest.number(count as u64);
@@ -79,6 +84,11 @@ fn answers(case: &Case, digest: &mut Digest) {
         let (refusal, verdict) = sys::classify(record, set);
         digest.number(refusal);
         digest.number(verdict);
+        if record.measured() != 0 {
+            let (refusal, total) = sys::metres(record, set);
+            digest.number(refusal);
+            digest.number(total);
+        }
     }
 
     for cuts in [case::words(case.body), cuts] {

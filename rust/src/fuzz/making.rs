@@ -1,17 +1,43 @@
 //! The byte string of each number under a seed: plans whole and damaged, records field by field,
-//! and bytes without a plan behind them.
+//! and bytes without a plan behind them. Lengths come last and are drawn apart, so that what was made
+//! before there were any is made still.
 
 use std::array;
 use std::ops::Range;
 
 use crate::fuzz::case::{self, FITTED, HEAD, RAW};
 use crate::halls;
+use crate::lengths;
 use crate::plans::{self, Damage};
 use crate::record::Record;
 use crate::rng::Rng;
 
 /// The byte string of a number. It depends on nothing else, so that seed and number find it again.
 pub fn bytes(seed: u64, number: u64) -> Vec<u8> {
+    let mut bytes = unmeasured(seed, number);
+    let mut rng = Rng::numbered(!seed, number);
+    if bytes.len() >= HEAD && !rng.once_in(4) {
+        let body = bytes.split_off(HEAD);
+        bytes.extend(measured(&mut rng, bytes[1], body));
+    }
+    bytes
+}
+
+/// A body with lengths, by where its record comes from.
+fn measured(rng: &mut Rng, origin: u8, mut body: Vec<u8>) -> Vec<u8> {
+    if origin % 4 != RAW {
+        lengths::put_in(rng, &mut body);
+        return body;
+    }
+    let mut record = lengths::measured(rng, &case::raw(&body));
+    if !rng.once_in(3) {
+        lengths::corrupt(rng, &mut record);
+    }
+    case::raw_bytes(&record)
+}
+
+/// The same byte string without lengths. The byte 4D is as rare in it as others without a meaning.
+pub fn unmeasured(seed: u64, number: u64) -> Vec<u8> {
     let mut rng = Rng::numbered(seed, number);
     let (origin, body) = body(&mut rng);
     let mut head = head(&mut rng);

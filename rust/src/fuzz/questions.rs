@@ -4,7 +4,7 @@ use crate::answers::{Part, Row, Verdict};
 use crate::fuzz::case::{self, Case, Size};
 use crate::fuzz::counts::Counts;
 use crate::lent;
-use crate::record::Record;
+use crate::record::{Record, SLOTS};
 use crate::reference::LONGEST_PLAN;
 use crate::rng::Rng;
 use crate::{brute, compare, plans, sides};
@@ -27,6 +27,7 @@ fn reading(case: &Case, counts: &mut Counts) {
     counts.decode.count(number);
     if number == 0 {
         counts.decode.count(compare::round_trip(case.plan));
+        counts.read(case.plan);
     }
 }
 
@@ -35,12 +36,15 @@ fn on_the_record(case: &Case, counts: &mut Counts) {
     let mut rng = Rng::new(case.set);
     let fault = compare::fault(record);
     counts.fault.count(fault);
+    if fault != 0 {
+        counts.faulty(record);
+    }
     let known = match fault {
         0 => Known::of(record, case.rows),
         _ => Known::nothing(),
     };
 
-    let buffer = rng.bytes(case.buffer.measured(needed_bytes(record), LONGEST_PLAN));
+    let buffer = rng.bytes(lent_bytes(case));
     counts.encode.count(compare::encode(record, &buffer));
 
     part_and_list(case, record, &known, &mut rng, counts);
@@ -53,6 +57,7 @@ fn on_the_record(case: &Case, counts: &mut Counts) {
             false => Verdict::NotCut,
         };
         judging(record, set, verdict, counts);
+        adding_up(record, set, counts);
     }
 
     if fault == 0 {
@@ -85,6 +90,12 @@ fn judging(record: &Record, set: u64, verdict: Verdict, counts: &mut Counts) {
     }
 }
 
+fn adding_up(record: &Record, set: u64, counts: &mut Counts) {
+    let (number, total) = compare::metres(record, set);
+    counts.metres.count(number);
+    counts.added_up(total);
+}
+
 /// An accepted hall has the same useful part and the same list without its loops, and with one loop
 /// more. A minimal cut is then one still, and none together with the loop.
 fn other_loops(case: &Case, known: &Known, rng: &mut Rng, counts: &mut Counts) {
@@ -113,12 +124,19 @@ fn widths(cuts: &[u64], counts: &mut Counts) {
     counts.widths += 1;
 }
 
-/// The bytes of the record's plan.
-pub fn needed_bytes(record: &Record) -> usize {
-    6 + 4 * record.present.count_ones() as usize
+/// The number of bytes to lend to the writer.
+pub fn lent_bytes(case: &Case) -> usize {
+    let present = case.record.present;
+    let measured = case.record.measured();
+    let commands = present.count_ones() + (present & measured).count_ones();
+    let longest = match measured {
+        0 => 6 + 4 * SLOTS,
+        _ => LONGEST_PLAN,
+    };
+    case.buffer.measured(6 + 4 * commands as usize, longest)
 }
 
-/// The sets to judge: any, the present cables among them, and, if the list is known, a minimal cut
+/// The sets to judge and to add up: any, the present cables among them, and, if the list is known, a minimal cut
 /// with one cable more, less or other.
 pub fn sets(case: &Case, cuts: &[u64]) -> Vec<u64> {
     let (any, present) = (case.set, case.record.present);

@@ -11,7 +11,7 @@ decode-requires c κs = search needs
 
 returns : tie.Need-returns
 returns c =
-    let (e, means) = c .before .before .before .before .decode .ensures in
+    let (e, means) = c .before .before .before .before .before .decode .ensures in
     (record { refusal = ap (λ (d : Decoded). d .refusal) e; network = ap (λ (d : Decoded). d .network) e }, means)
 
 pub cutlist-decode-spec : {M : Type 1} → statement M

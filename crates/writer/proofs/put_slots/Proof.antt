@@ -2,16 +2,15 @@
 -- from slot k on. The measure is the number of slots left. Assumes nothing.
 use mathlib.Core.Path.{_≡_, sym, ap, _∙_}
 use mathlib.Core.List.{List}
-use mathlib.Core.Bool.{Bool}
 use Rattle.network.specs.declared.Network.{Network}
 use Prim.Native.Nat.{ℕ, _-_, _≤_}
 use native.Mathlib.Numerals.{add-one}
 use native.Mathlib.Omega.{arith}
 use borrow.Author.Needs.{needs}
 use lib.ListN.{drop}
-use Rattle.network.specs.Record.{hasEdge, firstEnd, secondEnd}
-use Rattle.format.specs.Format.{commandOf, edgeCommand, encodeOf, WrittenTo}
-use Rattle.format.proofs.Writing.{rest, rest-all, rest-none, written-length, slot-room, slot-written, slots-left}
+use Rattle.format.specs.Format.{encodeOf, WrittenTo}
+use Rattle.format.proofs.Commands.{command-fields, rest, rest-all, rest-none}
+use Rattle.format.proofs.Writing.{written-length, slot-room, slot-written, slots-left}
 use Rattle.writer.proofs.put_slots.Statement.{statement}
 use Rattle.writer.proofs.put_slots.Tie as tie
 
@@ -50,17 +49,19 @@ element-copy-out-put-slot c = search needs
 element-copy-out-put-slot-2 : tie.Need-element-copy-out-put-slot-2 Inv-loop μ-loop
 element-copy-out-put-slot-2 c = search needs
 
--- The command of the slot is the definition's.
-command : (N : Network) (k : ℕ) {b : Bool} → b ≡ hasEdge N k → commandOf k (b, firstEnd N k, secondEnd N k) ≡ edgeCommand N k
-unfolding edgeCommand
-command N k e = ap (λ b. commandOf k (b, firstEnd N k, secondEnd N k)) e
+mul-put-slot : tie.Need-mul-put-slot Inv-loop μ-loop
+mul-put-slot c = search needs
+
+element-copy-out-put-slot-3 : tie.Need-element-copy-out-put-slot-3 Inv-loop μ-loop
+element-copy-out-put-slot-3 c = search needs
 
 put-slot-requires : tie.Need-put-slot-requires Inv-loop μ-loop
 put-slot-requires c κs =
-    let turn = c .before .before .before .before in
+    let tested = c .before .before .before in
+    let turn = tested .before .before in
     let N = turn .before .before .before .before .args .t2 in
     let l = turn .before .loop in
-    let same = command N (l .k) (c .before .before .contains .ensures) in
+    let same = command-fields N (l .k) (tested .contains .ensures) in
     slot-room N _ (l .plan) (l .at) (l .k) _ (turn .loop-test .taken) same (l .inv .written) (l .inv .left)
 
 add-k : tie.Need-add-k Inv-loop μ-loop
@@ -72,11 +73,11 @@ loop-less c = search needs
 loop-again : tie.Need-loop-again Inv-loop μ-loop
 loop-again c =
     let put = c .before .before .put-slot in
-    let tested = c .before .before .before .before .before in
+    let tested = c .before .before .before .before .before .before in
     let turn = tested .before .before in
     let N = turn .before .before .before .before .args .t2 in
     let l = turn .before .loop in
-    let same = command N (l .k) (tested .contains .ensures) in
+    let same = command-fields N (l .k) (tested .contains .ensures) in
     let h = turn .loop-test .taken in
     let next = slot-written N _ (l .plan) (l .at) (l .k) _ h same (l .inv .written) (l .inv .left) in
     let fewer = slots-left N _ (l .plan) (l .at) (l .k) _ h same (l .inv .written) (l .inv .left) in
@@ -96,7 +97,7 @@ returns c =
     let N = c .before .before .before .before .args .t2 in
     let l = c .before .loop in
     let all : l .k ≡ 64 = omega arith in
-    (l .inv .written, l .inv .left ∙ ap (λ j. rest N j (64 - j)) all ∙ rest-none N)
+    (l .inv .written, l .inv .left ∙ ap (λ j. rest N j (64 - j)) all ∙ rest-none N 64)
 
 pub put-slots-spec : {M : Type 1} → statement M
 put-slots-spec =
@@ -110,6 +111,8 @@ put-slots-spec =
     contains-requires
     element-copy-out-put-slot
     element-copy-out-put-slot-2
+    mul-put-slot
+    element-copy-out-put-slot-3
     put-slot-requires
     add-k
     loop-less

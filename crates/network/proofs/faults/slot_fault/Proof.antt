@@ -15,12 +15,12 @@ absent-fault-requires c κs = search needs
 returns : tie.Need-returns
 returns c =
     let a = c .before .before .args in
-    c .end-fault .ensures ∙ ap (λ p. slotFaultOf (a .nodes) (p, a .first, a .second)) (sym (c .before .if1 .taken))
+    c .end-fault .ensures ∙ ap (λ p. slotFaultOf (a .nodes) (p, a .first, a .second, a .metres)) (sym (c .before .if1 .taken))
 
 returns-2 : tie.Need-returns-2
 returns-2 c =
     let a = c .before .before .args in
-    c .absent-fault .ensures ∙ ap (λ p. slotFaultOf (a .nodes) (p, a .first, a .second)) (sym (c .before .if1 .left))
+    c .absent-fault .ensures ∙ ap (λ p. slotFaultOf (a .nodes) (p, a .first, a .second, a .metres)) (sym (c .before .if1 .left))
 
 pub slot-fault-spec : {M : Type 1} → statement M
 slot-fault-spec = tie.close (tie.spec end-fault-requires absent-fault-requires returns returns-2)

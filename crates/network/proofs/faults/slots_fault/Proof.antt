@@ -7,7 +7,7 @@ use borrow.Author.Needs.{needs}
 use native.Mathlib.Numerals.{add-one}
 use Rattle.sequences.specs.Words.{range}
 use Rattle.network.specs.declared.Network.{Network}
-use Rattle.network.specs.Record.{slotFaultOf, slotFault, slotsFault, firstEnd, secondEnd}
+use Rattle.network.specs.Record.{slotFaultOf, slotFault, slotsFault, firstEnd, secondEnd, metresOf}
 use Rattle.network.proofs.Slots.{slots-step}
 use Rattle.network.proofs.Refusals.{none-then, some-then}
 use Rattle.network.proofs.faults.slots_fault.Statement.{statement}
@@ -39,12 +39,18 @@ element-copy-out-slot-fault c = search needs
 element-copy-out-slot-fault-2 : tie.Need-element-copy-out-slot-fault-2 Inv-loop μ-loop
 element-copy-out-slot-fault-2 c = search needs
 
+mul-slot-fault : tie.Need-mul-slot-fault Inv-loop μ-loop
+mul-slot-fault c = search needs
+
+element-copy-out-slot-fault-3 : tie.Need-element-copy-out-slot-fault-3 Inv-loop μ-loop
+element-copy-out-slot-fault-3 c = search needs
+
 slot-fault-requires : tie.Need-slot-fault-requires Inv-loop μ-loop
 slot-fault-requires c κs = search needs
 
 -- The turn, seen from where the slot's fault is known.
 abbrev turn : tie.After-slot-fault Inv-loop μ-loop → tie.In-loop Inv-loop μ-loop
-turn c = c .before .before .before .before
+turn c = c .before .before .before .before .before
 
 -- The slot's fault is the definition's.
 here : (c : tie.After-slot-fault Inv-loop μ-loop)
@@ -54,7 +60,7 @@ here c =
     let N = turn c .before .before .before .args .t1 in
     let k = turn c .before .loop .k in
     c .slot-fault .ensures
-    ∙ ap (λ p. slotFaultOf (N .nodes) (p, firstEnd N k, secondEnd N k)) (c .before .before .before .contains .ensures)
+    ∙ ap (λ p. slotFaultOf (N .nodes) (p, firstEnd N k, secondEnd N k, metresOf N k)) (c .before .before .before .before .contains .ensures)
 
 returns : tie.Need-returns Inv-loop μ-loop
 returns c =
@@ -99,6 +105,8 @@ slots-fault-spec =
     contains-requires
     element-copy-out-slot-fault
     element-copy-out-slot-fault-2
+    mul-slot-fault
+    element-copy-out-slot-fault-3
     slot-fault-requires
     returns
     add-k

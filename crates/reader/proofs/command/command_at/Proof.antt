@@ -25,6 +25,12 @@ enum-known-awaited-2 c = search needs
 edge-at-requires : tie.Need-edge-at-requires
 edge-at-requires c κs = search needs
 
+enum-known-awaited-3 : tie.Need-enum-known-awaited-3
+enum-known-awaited-3 c = search needs
+
+length-at-requires : tie.Need-length-at-requires
+length-at-requires c κs = search needs
+
 returns : tie.Need-returns
 returns c =
     let a = c .before .before .before .before .args in
@@ -40,6 +46,11 @@ returns-3 c =
     let a = c .before .before .before .before .before .args in
     c .edge-at .ensures ∙ sym (ap (λ x. stepOf x (drop (a .at) (a .plan .now))) (c .before .before .awaited2 .given .1))
 
+returns-4 : tie.Need-returns-4
+returns-4 c =
+    let a = c .before .before .before .before .before .args in
+    c .length-at .ensures ∙ sym (ap (λ x. stepOf x (drop (a .at) (a .plan .now))) (c .before .before .awaited3 .given .1))
+
 pub command-at-spec : {M : Type 1} → statement M
 command-at-spec =
     tie.close
@@ -50,6 +61,9 @@ command-at-spec =
     terminals-at-requires
     enum-known-awaited-2
     edge-at-requires
+    enum-known-awaited-3
+    length-at-requires
     returns
     returns-2
-    returns-3)
+    returns-3
+    returns-4)

@@ -17,7 +17,7 @@ unfolding bare
 returns c =
     let a = c .before .args in
     let none : c .empty .result .0 ≡ 0 = same-members _ 0 (λ k. c .empty .ensures k ∙ sym (has-zero k)) in
-    ap (λ (edges : ℕ). assembled (a .nodes) (a .source) (a .sink) edges (replicate 64 0) (replicate 64 0)) none
+    ap (λ (edges : ℕ). assembled (a .nodes) (a .source) (a .sink) edges (replicate 64 0) (replicate 64 0) (replicate 64 0)) none
 
 pub bare-network-spec : {M : Type 1} → statement M
 bare-network-spec = tie.close (tie.spec empty-requires returns)

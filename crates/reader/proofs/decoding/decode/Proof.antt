@@ -1,8 +1,9 @@
 -- `reader::decode` meets its contract: each command's answer is the definition's, and the first refusal leaves.
 -- Assumes nothing.
 use mathlib.Core.Path.{sym, ap, _∙_}
+use native.Mathlib.Omega.{arith}
 use lib.ListN.{drop}
-use Rattle.format.specs.Format.{refuse, walk}
+use Rattle.format.specs.Format.{Bytes, refuse, walk}
 use Rattle.format.proofs.Reading.{read-means}
 use Rattle.format.proofs.Walk.{size-stops, terminals-goes, terminals-stops}
 use borrow.Author.Needs.{needs}
@@ -21,11 +22,15 @@ number-requires c κs = search needs
 refused-requires : tie.Need-refused-requires
 refused-requires c κs = search needs
 
+-- The plan's elements are bytes.
+given : (c : tie.After-next-command) → Bytes (c .before .before .args .plan .now)
+given c i = omega (arith, c .before .shared-slice-known .given i)
+
 returns : tie.Need-returns
 returns c =
     let one = c .before .before .before in
     let plan = one .before .before .args .plan .now in
-    read-means plan (c .refused .ensures ∙ ap refuse (c .before .number .ensures)
+    read-means plan (given one) (c .refused .ensures ∙ ap refuse (c .before .number .ensures)
     ∙ size-stops plan (one .next-command .ensures) (c .before .before .match .keys2))
 
 next-command-requires-2 : tie.Need-next-command-requires-2
@@ -47,7 +52,7 @@ returns-2 c =
     let s = two .before .before in
     let one = s .before .before in
     let plan = one .before .before .args .plan .now in
-    read-means plan (c .refused2 .ensures ∙ ap refuse (c .before .number2 .ensures)
+    read-means plan (given one) (c .refused2 .ensures ∙ ap refuse (c .before .number2 .ensures)
     ∙ terminals-stops plan (one .next-command .ensures) (s .size .given .1) (two .next-command2 .ensures) other)
 
 bare-network-requires : tie.Need-bare-network-requires
@@ -63,7 +68,7 @@ returns-3 c =
     let s = two .before .before in
     let one = s .before .before in
     let plan = one .before .before .args .plan .now in
-    read-means plan (c .decode-edges .ensures ∙ ap (λ N. walk N 0 (drop 5 plan)) (c .before .bare-network .ensures)
+    read-means plan (given one) (c .decode-edges .ensures ∙ ap (λ N. walk N 0 (drop 5 plan)) (c .before .bare-network .ensures)
     ∙ sym (terminals-goes plan (one .next-command .ensures) (s .size .given .1) (two .next-command2 .ensures) (t .terminals .given .1)))
 
 pub decode-spec : {M : Type 1} → statement M

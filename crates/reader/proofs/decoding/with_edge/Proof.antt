@@ -22,6 +22,12 @@ element-write-next c = search needs
 element-write-next-2 : tie.Need-element-write-next-2
 element-write-next-2 c = search needs
 
+mul-next : tie.Need-mul-next
+mul-next c = search needs
+
+element-write-next-3 : tie.Need-element-write-next-3
+element-write-next-3 c = search needs
+
 returns : tie.Need-returns
 unfolding withEdge
 returns c =
@@ -34,7 +40,8 @@ returns c =
     ∙ ap (λ x. has p j || (eqb j (a .edge) && x)) (lt-ltb (a .edge) 64 (c .before .before .pre))
     ∙ ap (λ x. has p j || x) (and-true (eqb j (a .edge)))
     ∙ sym (has-insert p (a .edge) j)) in
-    ap (λ (edges : ℕ). rewired N edges (set (N .first) (a .edge) (a .first)) (set (N .second) (a .edge) (a .second))) grown
+    ap (λ (edges : ℕ).
+    rewired N edges (set (N .first) (a .edge) (a .first)) (set (N .second) (a .edge) (a .second)) (set (N .metres) (a .edge) (a .metres))) grown
 
 pub with-edge-spec : {M : Type 1} → statement M
-with-edge-spec = tie.close (tie.spec with-requires element-write-next element-write-next-2 returns)
+with-edge-spec = tie.close (tie.spec with-requires element-write-next element-write-next-2 mul-next element-write-next-3 returns)

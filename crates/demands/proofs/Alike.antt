@@ -1,0 +1,35 @@
+-- Accepted networks that agree are answered alike.
+-- Assumes what the code's types say of the records.
+use mathlib.Core.Bool.{true, false}
+use mathlib.Core.List.{List}
+use mathlib.Core.Path.{_≡_, ap₂}
+use Prim.Native.Nat.{ℕ}
+use lib.Dec.{ltb}
+use lib.ListN.{length}
+use Rattle.bitset.specs.Members.{_⊆_}
+use Rattle.network.specs.declared.Network.{Network}
+use Rattle.network.specs.Record.{Stored, faultOf, present}
+use Rattle.format.proofs.Writing.{encode-decode}
+use Rattle.graph.proofs.Agree.{Agree}
+use Rattle.connectivity.proofs.Agree.{part-agrees, verdict-agrees}
+use Rattle.listing.proofs.Agree.{mincuts-agree, sourceSides-agree, call-agrees}
+use Rattle.text.specs.Text.{refusalLine, listText, maxRows}
+use Rattle.report.specs.Report.{listReport, reportOf}
+use Rattle.demands.specs.Alike.{Alike}
+
+module _ (M N : Network) (stored′ : Stored M) (stored : Stored N) (ok′ : faultOf M ≡ 0) (ok : faultOf N ≡ 0) (agree : Agree M N) where
+  report-agrees : listReport M ≡ listReport N
+  unfolding listReport
+  report-agrees =
+      ap₂ (λ (l k : List ℕ). elim (ltb maxRows (length l)) [ true ↦ refusalLine 12 | false ↦ listText l k ])
+      (mincuts-agree M N stored′ stored ok′ ok agree) (sourceSides-agree M N stored′ stored ok′ ok agree)
+
+  -- Where M has the edges of N.
+  pub alike : present N ⊆ present M → Alike M N
+  unfolding reportOf
+  alike more = record {
+    part = part-agrees M N stored′ stored ok′ ok agree;
+    verdicts = λ c within. verdict-agrees M N stored′ stored ok′ ok agree c (λ k m. more k (within k m)) within;
+    list = call-agrees M N stored′ stored ok′ ok agree;
+    printed = rw (encode-decode M stored′ ok′, encode-decode N stored ok) report-agrees;
+  }

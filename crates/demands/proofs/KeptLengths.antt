@@ -1,0 +1,142 @@
+-- What earlier plans keep: metres came, and a record without them is tested, read and written as it was.
+-- Assumes nothing.
+use mathlib.Core.Bool.{cond, _||_, or-false}
+use mathlib.Core.List.{List, [], _∷_, _++_, flatMap}
+use mathlib.Core.Path.{_≡_, refl, sym, ap, _∙_}
+use Prim.Native.Nat.{ℕ, zero, suc, _+_, _*_, _≤_, _<_}
+use native.Mathlib.Nat.{le-refl}
+use native.Mathlib.Omega.{arith}
+use borrow.Author.Tests.{le-ltb}
+use lib.Dec.{ltb}
+use lib.ListN.{length, drop, getD-replicate}
+use Rattle.sequences.specs.Words.{range}
+use Rattle.network.specs.declared.Network.{Network}
+use Rattle.network.specs.Record.{_when_, endFault, absentFault, Slot, hasEdge, firstEnd, secondEnd, metresOf, slotFault, bare, withEdge, Stored}
+use Rattle.network.proofs.Refusals.{refused-some}
+use Rattle.network.proofs.Slots.{withEdge-stored, withEdge-slots}
+use Rattle.format.specs.declared.Step.{Step}
+use Rattle.format.specs.Format.{at, edgeStep, lengthSize, accept, refuse, ifTaken, edges, edgeCommand, encodeOf, decodeUpTo}
+use Rattle.format.proofs.Commands.{length-absent}
+use Rattle.format.proofs.Steps.{edge-unfit, EdgeView, edge, end, edge-view, LengthView, measured, unmeasured, length-view}
+use Rattle.format.proofs.Walk.{edges-edge, edges-length-refused, edges-end, edges-refused}
+use Rattle.format.proofs.Reading.{edge-kept, bare-stored}
+use Rattle.demands.specs.Kept.{Unmeasured, slotUnmeasured, edgesUnmeasured, decodeUnmeasured, encodeUnmeasured, LengthsKept}
+use Rattle.demands.proofs.Lifted.{Lifted, lifted, lifted-by, refused-same, accepted-same, decode-lifted, lifted-plans, lifted-read, test-same}
+
+-- ---- records
+
+-- A slot without metres has the fault that it had.
+slot-kept : (N : Network) (k : ℕ) → metresOf N k ≡ 0 → slotFault N k ≡ slotUnmeasured N k
+unfolding slotFault slotUnmeasured absentFault
+slot-kept N k z =
+    let a : ℕ = firstEnd N k in
+    let b : ℕ = secondEnd N k in
+    let none : (ltb 0 a || ltb 0 b || ltb 0 (metresOf N k)) ≡ (ltb 0 a || ltb 0 b) =
+    ap (λ x. ltb 0 a || ltb 0 b || x) (le-ltb 0 (metresOf N k) (omega arith)) ∙ or-false (ltb 0 a || ltb 0 b) in
+    ap (λ x. cond (hasEdge N k) (endFault (N .nodes) a b) (13 when x)) none
+
+-- ---- bytes
+
+-- Its commands are those that it had.
+command-kept : (N : Network) (k : ℕ) → metresOf N k ≡ 0 → edgeCommand N k ≡ cond (hasEdge N k) (0x43 ∷ k ∷ firstEnd N k ∷ secondEnd N k ∷ []) []
+unfolding edgeCommand
+command-kept N k z = ap (λ c. cond (hasEdge N k) (0x43 ∷ k ∷ firstEnd N k ∷ secondEnd N k ∷ c) []) (length-absent k (metresOf N k) z)
+
+commands-kept : (f g : ℕ → List ℕ) (n k : ℕ) → ((j : ℕ) → j < k + n → f j ≡ g j) → flatMap f (range k n) ≡ flatMap g (range k n)
+unfolding flatMap range
+commands-kept f g zero k same = refl
+commands-kept f g (suc n) k same = rw (same k (omega arith), commands-kept f g n (suc k) (λ j l. same j (omega arith)))
+
+pub unmeasured-bytes : (N : Network) → Unmeasured N → encodeOf N ≡ encodeUnmeasured N
+unfolding encodeOf encodeUnmeasured
+unmeasured-bytes N none =
+    ap (λ c. 0x50 ∷ N .nodes ∷ 0x53 ∷ N .source ∷ N .sink ∷ (c ++ 0x45 ∷ [])) (commands-kept _ _ 64 0 (λ k l. command-kept N k (none k l)))
+
+-- ---- plans
+
+-- A turn of the walk without lengths.
+module _ (turns : ℕ) (N : Network) (next : ℕ) (s : List ℕ) where
+  old-edge : {k a b : ℕ} → edgeStep (N .nodes) next s ≡ Step.Edge k a b
+      → edgesUnmeasured (suc turns) N next s ≡ edgesUnmeasured turns (withEdge N k a b 0) (suc k) (drop 4 s)
+  unfolding edgesUnmeasured ifTaken
+  old-edge e = rw e
+
+  old-end : edgeStep (N .nodes) next s ≡ Step.End → edgesUnmeasured (suc turns) N next s ≡ accept N
+  unfolding edgesUnmeasured ifTaken
+  old-end e = rw e
+
+  old-refused : {r : ℕ} → edgeStep (N .nodes) next s ≡ Step.Refused r → 0 < r → edgesUnmeasured (suc turns) N next s ≡ refuse r
+  unfolding edgesUnmeasured ifTaken
+  old-refused {r} e p = rw e (refused-some r _ (refuse r) (λ z. omega arith))
+
+-- A length was no command fit for its place.
+old-unfit : (turns : ℕ) (N : Network) (next : ℕ) (s : List ℕ) → 0 < turns → at s 0 ≡ 0x4D → edgesUnmeasured turns N next s .refusal ≡ 2
+old-unfit zero N next s h e = absurd (omega arith)
+old-unfit (suc turns) N next s h e = ap (λ d. d .refusal) (old-refused turns N next s (edge-unfit s e (N .nodes) next) (omega arith))
+
+-- An edge without metres leaves none.
+withEdge-unmeasured : (N : Network) → Stored N → (k a b : ℕ) → k < 64 → Unmeasured N → Unmeasured (withEdge N k a b 0)
+withEdge-unmeasured N stored k a b l none = withEdge-slots N stored k a b 0 l (λ j s. j < 64 → s .3 ≡ 0) (λ h. refl) (λ j d. none j)
+
+-- No length takes no byte.
+no-length : (turns : ℕ) (N : Network) (next : ℕ) (s : List ℕ) → edges turns N next (drop (lengthSize 0) s) ≡ edges turns N next s
+unfolding lengthSize
+no-length turns N next s = refl
+
+walk-kept : (turns : ℕ) (N : Network) (next : ℕ) (s : List ℕ) → length s ≤ turns → Stored N → Unmeasured N
+    → Lifted 2 Unmeasured (edgesUnmeasured turns N next s) (edges turns N next s)
+unfolding edgesUnmeasured edges
+walk-kept zero N next s t stored none = refused-same 1 (omega arith)
+walk-kept (suc turns) N next s t stored none =
+    go (λ k a b l p.
+    walk-kept turns (withEdge N k a b 0) (suc k) (drop 4 s) p (withEdge-stored N stored k a b 0 l) (withEdge-unmeasured N stored k a b l none))
+    (edge-view (N .nodes) next s)
+  where
+    go : ((k a b : ℕ) → k < 64 → length (drop 4 s) ≤ turns
+        → Lifted 2 Unmeasured (edgesUnmeasured turns (withEdge N k a b 0) (suc k) (drop 4 s)) (edges turns (withEdge N k a b 0) (suc k) (drop 4 s)))
+        → EdgeView (N .nodes) next s → Lifted 2 Unmeasured (edgesUnmeasured (suc turns) N next s) (edges (suc turns) N next s)
+    go later (edge k a b rest step p h l f) = after (length-view k (drop 4 s))
+      where
+        -- At least the edge's bytes are taken.
+        fewer : length (drop 4 s) + 4 ≤ suc turns
+        fewer = let long : length s ≡ 4 + length (drop 4 s) = ap length p ∙ omega (arith, ap (λ x. length (drop 4 x)) p) in omega arith
+
+        -- A length was refused.
+        refused-two : at (drop 4 s) 0 ≡ 0x4D → edgesUnmeasured (suc turns) N next s .refusal ≡ 2
+        refused-two e =
+            ap (λ d. d .refusal) (old-edge turns N next s step) ∙ old-unfit turns (withEdge N k a b 0) (suc k) (drop 4 s) (omega (arith, fewer)) e
+
+        after : LengthView k (drop 4 s) → Lifted 2 Unmeasured (edgesUnmeasured (suc turns) N next s) (edges (suc turns) N next s)
+        after (unmeasured step′ none′) =
+            lifted-by (old-edge turns N next s step) (edges-edge turns N next s step step′ ∙ no-length turns (withEdge N k a b 0) (suc k) (drop 4 s))
+            (later k a b l (omega (arith, fewer)))
+        after (measured high low rest′ step′ p′ some) =
+            lifted (refused-two (ap (λ x. at x 0) p′)) (λ ok none′.
+            let goes = edges-edge turns N next s step step′ in
+            let last : List ℕ = drop (lengthSize (high * 256 + low)) (drop 4 s) in
+            let held = edge-kept turns N stored k a b (high * 256 + low) last l (sym (ap (λ d. d .refusal) goes) ∙ ok) in
+            some (sym (ap (λ (x : Slot). x .3) held) ∙ sym (ap (λ d. metresOf (d .network) k) goes) ∙ none′ k l))
+        after (LengthView.refused r step′ q c d) =
+            lifted (refused-two d) (λ ok none′.
+            absurd (omega (arith, ap (λ x. x .refusal) (edges-length-refused turns N next s step step′ q))))
+    go later (end step p) = lifted-by (old-end turns N next s step) (edges-end turns N next s step) (accepted-same N none)
+    go later (EdgeView.refused r step p b) = lifted-by (old-refused turns N next s step p) (edges-refused turns N next s step p) (refused-same r p)
+
+-- A network without edges has no metres.
+bare-unmeasured : (n s t : ℕ) → Unmeasured (bare n s t)
+unfolding bare
+bare-unmeasured n s t k l = getD-replicate 64 k 0 0 l
+
+decode-kept : (most : ℕ) (s : List ℕ) → Lifted 2 Unmeasured (decodeUnmeasured most s) (decodeUpTo most s)
+decode-kept =
+    decode-lifted (λ N s. edgesUnmeasured (length s) N 0 s)
+    (λ n a b s. walk-kept (length s) (bare n a b) 0 s (le-refl (length s)) (bare-stored n a b) (bare-unmeasured n a b))
+
+-- Whatever the limit of points is.
+pub lengths-kept : (most : ℕ) → LengthsKept most
+lengths-kept most = record {
+  faults = λ N none. test-same slotUnmeasured most N (λ k l. slot-kept N k (none k l));
+  bytes = unmeasured-bytes;
+  plans = λ s. lifted-plans (decode-kept most s);
+  read = λ s. lifted-read (omega arith) (decode-kept most s);
+}

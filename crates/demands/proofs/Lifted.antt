@@ -1,0 +1,79 @@
+-- The record test by another rule for a slot; and an answer of the reader beside an earlier one, where of the earlier refusals one was
+-- lifted.
+-- Assumes nothing.
+--
+--   Lifted r P t d   the earlier answer t is today's, d, and then a record that was accepted has P; or it was r, and then one that is accepted
+--                    does not have P
+use mathlib.Core.List.{List, map, foldr}
+use mathlib.Core.Logic.{_↔_}
+use mathlib.Core.Path.{_≡_, refl, sym, ap, subst, _∙_}
+use Prim.Native.Nat.{ℕ, zero, suc, _+_, _<_}
+use native.Mathlib.Omega.{arith}
+use lib.ListN.{length, drop}
+use Rattle.network.specs.declared.Network.{Network}
+use Rattle.sequences.specs.Words.{range}
+use Rattle.network.specs.Record.{_then_, unlessRefused, sizeFault, terminalFault, slotFault, slotsFault, faultUpTo, bare}
+use Rattle.format.specs.declared.Decoded.{Decoded}
+use Rattle.format.specs.declared.Step.{Step}
+use Rattle.format.specs.Format.{at, sizeStep, terminalsStep, told, accept, refuse, ifTaken, edges, decodeUpTo}
+use Rattle.demands.specs.Kept.{testBy, decodeBy}
+
+-- ---- the record test
+
+-- A row of equal faults has the same first one.
+row-same : (f g : ℕ → ℕ) (n k : ℕ) → ((j : ℕ) → j < k + n → f j ≡ g j) → foldr _then_ 0 (map f (range k n)) ≡ foldr _then_ 0 (map g (range k n))
+unfolding range
+row-same f g zero k same = refl
+row-same f g (suc n) k same = rw (same k (omega arith), row-same f g n (suc k) (λ j l. same j (omega arith)))
+
+-- Where each slot has the same fault, the record has.
+pub test-same : (slot : Network → ℕ → ℕ) (most : ℕ) (N : Network) → ((k : ℕ) → k < 64 → slotFault N k ≡ slot N k) → faultUpTo most N ≡ testBy slot most N
+unfolding faultUpTo slotsFault testBy
+test-same slot most N same =
+    ap (λ r. sizeFault most (N .nodes) then terminalFault (N .nodes) (N .source) (N .sink) then r) (row-same (slotFault N) (slot N) 64 0 same)
+
+-- ---- the reader
+
+pub data Lifted (r : ℕ) (P : Network → Type 0) (t d : Decoded) : Type 0 where
+  same : t ≡ d → (d .refusal ≡ 0 → P (d .network)) → Lifted r P t d
+  lifted : t .refusal ≡ r → (d .refusal ≡ 0 → P (d .network) → ⊥) → Lifted r P t d
+
+module _ {r : ℕ} {P : Network → Type 0} where
+  -- Both answers by other names.
+  pub lifted-by : {t t′ d d′ : Decoded} → t ≡ t′ → d ≡ d′ → Lifted r P t′ d′ → Lifted r P t d
+  lifted-by {t} {t′} {d} {d′} e f w = subst (λ (x : Decoded). Lifted r P x d) (sym e) (subst (Lifted r P t′) (sym f) w)
+
+  -- A refusal by another rule is the same, and so is a record that has P.
+  pub refused-same : (k : ℕ) → 0 < k → Lifted r P (refuse k) (refuse k)
+  refused-same k p = same refl (λ e. absurd (let bad : k ≡ 0 = e in omega arith))
+
+  pub accepted-same : (N : Network) → P N → Lifted r P (accept N) (accept N)
+  accepted-same N p = same refl (λ e. p)
+
+  -- A command before, whatever it answers, changes nothing in that.
+  taken-lifted : (t : Step) (f g : List ℕ → Decoded) → ((v : List ℕ) → Lifted r P (f v) (g v)) → Lifted r P (ifTaken t f) (ifTaken t g)
+  unfolding ifTaken
+  taken-lifted t f g on = go (told t .number)
+    where
+      go : (k : ℕ) → Lifted r P (unlessRefused k (f (told t .values)) (refuse k)) (unlessRefused k (g (told t .values)) (refuse k))
+      go zero = on (told t .values)
+      go (suc k) = refused-same (suc k) (omega arith)
+
+  -- So it is of the readers if it is of their walks.
+  pub decode-lifted : (walk : Network → List ℕ → Decoded) → ((n a b : ℕ) (s : List ℕ) → Lifted r P (walk (bare n a b) s) (edges (length s) (bare n a b) 0 s))
+      → (most : ℕ) (s : List ℕ) → Lifted r P (decodeBy walk most s) (decodeUpTo most s)
+  unfolding decodeBy decodeUpTo
+  decode-lifted walk each most s =
+      taken-lifted (sizeStep most s) _ _ (λ size. taken-lifted (terminalsStep (at size 0) (drop 2 s)) _ _ (λ v.
+      each (at size 0) (at v 0) (at v 1) (drop 5 s)))
+
+  -- Any other answer is today's, and what was accepted is what is accepted and has P.
+  pub lifted-plans : {t d : Decoded} → Lifted r P t d → (t .refusal ≡ r → ⊥) → d ≡ t
+  lifted-plans (same e q) n = sym e
+  lifted-plans (lifted e q) n = absurd (n e)
+
+  pub lifted-read : {t d : Decoded} → 0 < r → Lifted r P t d → (t .refusal ≡ 0) ↔ ((d .refusal ≡ 0) × P (d .network))
+  lifted-read p (same e q) =
+      let number = ap (λ (d : Decoded). d .refusal) e in
+      (λ z. let ok = sym number ∙ z in (ok, q ok), λ k. number ∙ k .0)
+  lifted-read p (lifted e q) = (λ z. absurd (omega arith), λ k. absurd (q (k .0) (k .1)))

@@ -1,0 +1,24 @@
+-- Two networks for which the calls answer alike.
+-- To believe.
+--
+--   Alike M N        M has the useful part, the verdicts on N's cables, the list and the print of N
+use mathlib.Core.List.{List}
+use mathlib.Core.Path.{_≡_}
+use Prim.Native.Nat.{ℕ}
+use Rattle.bitset.specs.Members.{_⊆_}
+use Rattle.network.specs.declared.Network.{Network}
+use Rattle.network.specs.Record.{present}
+use Rattle.format.specs.Format.{encodeOf}
+use Rattle.connectivity.specs.Answers.{relevantOf, verdictOf}
+use Rattle.listing.specs.List.{listedBy, cutRowsAfter, sideRowsAfter}
+use Rattle.report.specs.Report.{reportOf}
+
+-- The list call answers alike and leaves the same rows, whatever was lent: count, cuts, sides and later rows, on refusal too.
+pub record Alike (M N : Network) : Type 0 where
+  pub part : relevantOf M ≡ relevantOf N
+  pub verdicts : (c : ℕ) → c ⊆ present N → verdictOf M c ≡ verdictOf N c
+  pub list : (cuts sides : List ℕ)
+      → (listedBy M cuts sides ≡ listedBy N cuts sides)
+      × (cutRowsAfter M cuts sides ≡ cutRowsAfter N cuts sides)
+      × (sideRowsAfter M cuts sides ≡ sideRowsAfter N cuts sides)
+  pub printed : reportOf (encodeOf M) ≡ reportOf (encodeOf N)

@@ -1,0 +1,2 @@
+-- The laws of the total.
+pub mod Totals

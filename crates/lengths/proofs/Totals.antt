@@ -1,0 +1,85 @@
+-- The total, member by member, and the call's answer.
+-- Assumes nothing.
+use mathlib.Core.Bool.{Bool, true, false}
+use mathlib.Core.List.{List, [], _∷_}
+use mathlib.Core.Path.{_≡_, ap}
+use Prim.Native.Nat.{ℕ, zero, suc, _+_, _^_, _≤_, _<_, zero-le}
+use native.Mathlib.Omega.{arith}
+use lib.Dec.{ltb}
+use lib.ListN.{length}
+use Rattle.sequences.specs.Counts.{sum}
+use Rattle.bitset.specs.Members.{has, members, membersFrom, Lowest}
+use Rattle.bitset.proofs.MemberList.{members-none, members-first}
+use Rattle.bitset.proofs.Scans.{Less}
+use Rattle.network.specs.declared.Network.{Network}
+use Rattle.network.specs.Record.{setFault, metresOf, Stored}
+use Rattle.network.proofs.Refusals.{refused-none, refused-some}
+use Rattle.network.proofs.Rules.{fault-rules}
+use Rattle.network.proofs.Sets.{set-none, set-ok}
+use Rattle.lengths.specs.declared.Measured.{Measured}
+use Rattle.lengths.specs.Lengths.{totalMetres, totalOf, TotalMeans}
+
+-- ---- the total
+
+module _ (N : Network) where
+  -- A set without members has none.
+  pub total-none : (c k : ℕ) → Lowest 64 c k → 64 ≤ k → totalMetres N c ≡ 0
+  unfolding totalMetres sum
+  total-none c k low h = rw (members-none 64 c (λ j l. low .none-below j (omega arith)))
+
+  -- The lowest member adds its metres to those of the others.
+  pub total-first : (c k d : ℕ) → k < 64 → Lowest 64 c k → Less c k d → totalMetres N c ≡ metresOf N k + totalMetres N d
+  unfolding totalMetres sum
+  total-first c k d h low less = rw (members-first 64 c d k h low (less .rest))
+
+-- There is one member less then.
+pub members-less : (c k d : ℕ) → k < 64 → Lowest 64 c k → Less c k d → length (members 64 c) ≡ suc (length (members 64 d))
+members-less c k d h low less = ap length (members-first 64 c d k h low (less .rest))
+
+-- A set has at most as many members as there are numbers.
+members-count : (s n k : ℕ) → length (membersFrom s k n) ≤ n
+unfolding membersFrom
+members-count s zero k = zero-le
+members-count s (suc n) k = go (ltb s (2 ^ k)) (has s k) (members-count s n (suc k))
+  where
+    go : (a b : Bool) → length (membersFrom s (suc k) n) ≤ n
+        → length {A = ℕ} (elim a as (λ x. List ℕ) [
+          | true ↦ []
+          | false ↦ elim b as (λ x. List ℕ) [ true ↦ k ∷ membersFrom s (suc k) n | false ↦ membersFrom s (suc k) n ]
+        ]) ≤ suc n
+    go true b h = zero-le
+    go false true h = omega arith
+    go false false h = omega arith
+
+pub members-most : (s : ℕ) → length (members 64 s) ≤ 64
+members-most s = members-count s 64 0
+
+-- ---- the answer
+
+module _ (N : Network) (c : ℕ) where
+  -- A refusal gives 0 metres, and what is not refused the total.
+  pub total-refused : (r : ℕ) → r ≡ setFault N c → (r ≡ 0 → ⊥) → record { refusal = r; metres = 0 } ≡ totalOf N c
+  unfolding totalOf
+  total-refused r e some = rw (← e, refused-some r (totalMetres N c) 0 some)
+
+  pub total-given : (r t : ℕ) → r ≡ setFault N c → r ≡ 0 → t ≡ totalMetres N c → record { refusal = 0; metres = t } ≡ totalOf N c
+  unfolding totalOf
+  total-given r t e none f = rw (← e, none, f)
+
+  module _ (stored : Stored N) where
+    -- What the answer means.
+    total-means : TotalMeans N c (totalOf N c .refusal) (totalOf N c .metres)
+    unfolding totalOf
+    total-means = record {
+      stored = stored;
+      kept = (
+        λ e. let p = set-ok N c e in (fault-rules N .0 (p .0), p .1),
+        λ p. set-none N c (fault-rules N .1 (p .0)) (p .1),
+      );
+      total = λ e. refused-none (totalMetres N c) 0 e;
+      refused = λ f. refused-some (setFault N c) (totalMetres N c) 0 f;
+    }
+
+    -- Beside the answer stands what it means.
+    pub answer-means : {m : Measured} → m ≡ totalOf N c → (m ≡ totalOf N c) × TotalMeans N c (m .refusal) (m .metres)
+    answer-means e = (e, rw e total-means)

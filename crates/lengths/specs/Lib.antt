@@ -1,0 +1,2 @@
+-- The definitions that the contracts of `lengths` cite.
+pub mod Lengths

@@ -1,0 +1,294 @@
+//! Lent memory at the edge of what the process may touch: each value and each row lies at the end or
+//! at the start of a page, and the pages beside it can be neither read nor written. A call that looks
+//! past what it was lent ends the test by a signal.
+
+use std::ffi::c_void;
+use std::ptr;
+use std::slice;
+
+use cutlist_tests::answers::{Nodes, Part};
+use cutlist_tests::halls;
+use cutlist_tests::lengths;
+use cutlist_tests::plans;
+use cutlist_tests::record::{Record, SLOTS};
+use cutlist_tests::rng::Rng;
+use cutlist_tests::sys;
+use cutlist_tests::sys::capi::{cutlist_decode, cutlist_widths, on_fields};
+use cutlist_tests::tally::Tally;
+
+unsafe extern "C" {
+    fn mmap(
+        at: *mut c_void,
+        length: usize,
+        access: i32,
+        kind: i32,
+        file: i32,
+        from: i64,
+    ) -> *mut c_void;
+    fn mprotect(at: *mut c_void, length: usize, access: i32) -> i32;
+    fn munmap(at: *mut c_void, length: usize) -> i32;
+}
+
+/// As on x86-64 Linux: no access, reading and writing, private and of no file.
+const NONE: i32 = 0;
+const BOTH: i32 = 3;
+const MEMORY: i32 = 0x22;
+
+const PAGE: usize = 4096;
+
+/// Where a lent value lies on its page.
+#[derive(Clone, Copy, Debug)]
+enum At {
+    Start,
+    End,
+}
+
+/// Lent values on pages of their own.
+struct Lent<T> {
+    pages: *mut c_void,
+    length: usize,
+    place: *mut T,
+    count: usize,
+}
+
+impl<T: Copy> Lent<T> {
+    fn new(values: &[T], at: At) -> Lent<T> {
+        let bytes = size_of_val(values);
+        let middle = bytes.next_multiple_of(PAGE).max(PAGE);
+        let length = middle + 2 * PAGE;
+        // SAFETY: the system chooses pages that nothing else has, and the middle ones can be written.
+        unsafe {
+            let pages = mmap(ptr::null_mut(), length, NONE, MEMORY, -1, 0);
+            assert_ne!(pages as isize, -1, "no memory");
+            let open = pages.byte_add(PAGE);
+            assert_eq!(mprotect(open, middle, BOTH), 0);
+            let place: *mut T = match at {
+                At::Start => open,
+                At::End => open.byte_add(middle - bytes),
+            }
+            .cast();
+            assert!(place.is_aligned());
+            place.copy_from_nonoverlapping(values.as_ptr(), values.len());
+            Lent {
+                pages,
+                length,
+                place,
+                count: values.len(),
+            }
+        }
+    }
+
+    fn values(&self) -> &[T] {
+        // SAFETY: so many values were written there, and no call has the place any more.
+        unsafe { slice::from_raw_parts(self.place, self.count) }
+    }
+}
+
+impl<T> Drop for Lent<T> {
+    fn drop(&mut self) {
+        // SAFETY: the pages are this value's own.
+        assert_eq!(unsafe { munmap(self.pages, self.length) }, 0);
+    }
+}
+
+/// Ends and metres of a record, each array on pages of its own.
+struct Arrays {
+    first: Lent<u8>,
+    second: Lent<u8>,
+    metres: Lent<u16>,
+}
+
+impl Arrays {
+    fn of(record: &Record, at: At) -> Arrays {
+        Arrays {
+            first: Lent::new(&record.first, at),
+            second: Lent::new(&record.second, at),
+            metres: Lent::new(&record.metres, at),
+        }
+    }
+}
+
+/// Calls a function on the fields of a record.
+macro_rules! call {
+    ($name:ident, $record:expr, $arrays:expr $(, $more:expr)*) => {
+        // SAFETY: each pointer is valid for its type and length, and no two overlap.
+        unsafe {
+            on_fields::$name(
+                $record.nodes,
+                $record.source,
+                $record.sink,
+                $record.present,
+                $arrays.first.place.cast(),
+                $arrays.second.place.cast(),
+                $arrays.metres.place.cast(),
+                $($more,)*
+            )
+        }
+    };
+}
+
+/// Reads a plan.
+fn decode(plan: &[u8], at: At) -> (u8, Record) {
+    let bytes = Lent::new(plan, at);
+    let [nodes, source, sink] = [(); 3].map(|()| Lent::new(&[7u8], at));
+    let present = Lent::new(&[7u64], at);
+    let stale = Record {
+        first: [7; SLOTS],
+        second: [7; SLOTS],
+        metres: [7; SLOTS],
+        ..Record::default()
+    };
+    let arrays = Arrays::of(&stale, at);
+    // SAFETY: each pointer is valid for its type and length, and no two overlap.
+    let refusal = unsafe {
+        cutlist_decode(
+            bytes.place,
+            plan.len(),
+            nodes.place,
+            source.place,
+            sink.place,
+            present.place,
+            arrays.first.place.cast(),
+            arrays.second.place.cast(),
+            arrays.metres.place.cast(),
+        )
+    };
+    let array = "an array of all slots";
+    let record = Record {
+        nodes: nodes.values()[0],
+        source: source.values()[0],
+        sink: sink.values()[0],
+        present: present.values()[0],
+        first: arrays.first.values().try_into().expect(array),
+        second: arrays.second.values().try_into().expect(array),
+        metres: arrays.metres.values().try_into().expect(array),
+    };
+    (refusal, record)
+}
+
+/// Every call on the record, on its bytes and on its list gives what it gives elsewhere.
+fn assert_same(record: &Record, set: u64, at: At) -> u8 {
+    let arrays = Arrays::of(record, at);
+    let fault = call!(cutlist_fault, record, arrays);
+    assert_eq!(fault, sys::fault(record), "{record:?}");
+
+    let total = Lent::new(&[7u32], at);
+    let refusal = call!(cutlist_metres, record, arrays, set, total.place);
+    assert_eq!((refusal, total.values()[0]), sys::metres(record, set));
+
+    let verdict = Lent::new(&[7u8], at);
+    let refusal = call!(cutlist_classify, record, arrays, set, verdict.place);
+    assert_eq!((refusal, verdict.values()[0]), sys::classify(record, set));
+
+    let (nodes, edges) = (Lent::new(&[7 as Nodes], at), Lent::new(&[7u64], at));
+    let refusal = call!(cutlist_relevant, record, arrays, nodes.place, edges.place);
+    let part = Part {
+        nodes: nodes.values()[0],
+        edges: edges.values()[0],
+    };
+    assert_eq!((refusal, part), sys::relevant(record));
+
+    let count = Lent::new(&[7usize], at);
+    let (mut cuts, mut sides) = ([7; 40], [7; 40]);
+    let answer = sys::list(record, &mut cuts, &mut sides);
+    let rows = answer.1;
+    for lent in [rows, 40] {
+        let lent_cuts = Lent::new(&vec![7u64; lent], at);
+        let lent_sides = Lent::new(&vec![7 as Nodes; lent], at);
+        let refusal = call!(
+            cutlist_list,
+            record,
+            arrays,
+            lent_cuts.place,
+            lent,
+            lent_sides.place,
+            lent,
+            count.place
+        );
+        assert_eq!((refusal, count.values()[0]), answer, "{record:?}");
+        assert_eq!(lent_cuts.values(), &cuts[..lent]);
+        assert_eq!(lent_sides.values(), &sides[..lent]);
+
+        let table = Lent::new(&[7u64; 65], at);
+        // SAFETY: each pointer is valid for its type and length, and the two do not overlap.
+        unsafe { cutlist_widths(lent_cuts.place, lent, table.place.cast()) };
+        assert_eq!(table.values(), sys::widths(lent_cuts.values()));
+    }
+
+    let mut plan = [7; 600];
+    let answer = sys::encode(record, &mut plan);
+    for lent in [answer.1, 600] {
+        let bytes = Lent::new(&vec![7u8; lent], at);
+        let refusal = call!(
+            cutlist_encode,
+            record,
+            arrays,
+            bytes.place,
+            lent,
+            count.place
+        );
+        let written = (refusal, count.values()[0]);
+        assert_eq!(written, answer, "{record:?}");
+        assert_eq!(bytes.values(), &plan[..lent]);
+    }
+    // What is lent for reading is as it was.
+    assert_eq!(arrays.first.values(), record.first);
+    assert_eq!(arrays.second.values(), record.second);
+    assert_eq!(arrays.metres.values(), record.metres);
+    fault
+}
+
+#[test]
+fn no_call_looks_past_what_it_was_lent() {
+    let mut rng = Rng::new(111);
+    let mut tally = Tally::default();
+    for round in 0..300 {
+        let record = match round % 3 {
+            0 => plans::record(&mut rng),
+            1 => plans::record_with(&mut rng, u64::MAX),
+            _ => plans::small(&mut rng, 12),
+        };
+        let mut record = lengths::measured(&mut rng, &record);
+        if round % 5 == 0 {
+            plans::corrupt(&mut rng, &mut record);
+        }
+        let set = match rng.once_in(4) {
+            true => rng.draw(),
+            false => rng.draw() & record.present,
+        };
+        for at in [At::Start, At::End] {
+            tally.count(assert_same(&record, set, at));
+        }
+    }
+    tally.assert_each(&[0], 400);
+    tally.assert_each(&[9, 13], 10);
+}
+
+/// Where the last page ends: every beginning of plans, and every way to damage them.
+#[test]
+fn the_reader_does_not_look_past_the_last_byte() {
+    let mut rng = Rng::new(112);
+    let longest = Record {
+        metres: [65_535; SLOTS],
+        ..halls::two_points(64)
+    };
+    let bridge = halls::bridge();
+    let measured = bridge.clone().with_metres(2, 1).with_metres(4, 300);
+    let mut read = 0;
+    for plan in [&bridge, &measured, &longest].map(plans::bytes) {
+        for end in 0..=plan.len() {
+            for at in [At::Start, At::End] {
+                assert_eq!(decode(&plan[..end], at), sys::decode(&plan[..end]));
+                read += 1;
+            }
+        }
+    }
+    for damage in plans::Damage::ALL {
+        for _ in 0..40 {
+            let plan = damage.measured_plan(&mut rng);
+            assert_eq!(decode(&plan, At::End), sys::decode(&plan));
+            read += 1;
+        }
+    }
+    assert!(read > 1_500, "{read}");
+}
