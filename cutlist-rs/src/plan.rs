@@ -230,9 +230,11 @@ impl Plan {
         metres.filter(|&metres| metres != 0)
     }
 
-    /// The cables of a set that have no length: those that [`Plan::metres`] counts as 0 metres.
+    /// The present cables of a set that have no length: those that [`Plan::metres`] counts as 0
+    /// metres.
     pub fn unmeasured(&self, set: EdgeSet) -> EdgeSet {
-        let without = set.iter().filter(|&edge| self.length(edge).is_none());
+        let present = EdgeSet(set.0 & self.present().0);
+        let without = present.iter().filter(|&edge| self.length(edge).is_none());
         EdgeSet(without.fold(0, |edges, edge| edges | 1 << edge))
     }
 
@@ -464,8 +466,8 @@ mod tests {
         }
         assert_eq!(
             plan.unmeasured(EdgeSet(u64::MAX)),
-            EdgeSet(!0b11011),
-            "absent cables have no length either"
+            EdgeSet(0b00100),
+            "absent cables are none of the plan's"
         );
         assert_eq!(bridge().metres(bridge().present()), Ok(0));
         assert_eq!(bridge().unmeasured(EdgeSet(0b11111)), EdgeSet(0b11111));

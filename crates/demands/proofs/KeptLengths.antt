@@ -9,11 +9,13 @@ use native.Mathlib.Omega.{arith}
 use borrow.Author.Tests.{le-ltb}
 use lib.Dec.{ltb}
 use lib.ListN.{length, drop, getD-replicate}
+use lib.Seq.{getD-drop}
 use Rattle.sequences.specs.Words.{range}
 use Rattle.network.specs.declared.Network.{Network}
 use Rattle.network.specs.Record.{_when_, endFault, absentFault, Slot, hasEdge, firstEnd, secondEnd, metresOf, slotFault, bare, withEdge, Stored}
 use Rattle.network.proofs.Refusals.{refused-some}
 use Rattle.network.proofs.Slots.{withEdge-stored, withEdge-slots}
+use Rattle.format.specs.declared.Decoded.{Decoded}
 use Rattle.format.specs.declared.Step.{Step}
 use Rattle.format.specs.Format.{at, edgeStep, lengthSize, accept, refuse, ifTaken, edges, edgeCommand, encodeOf, decodeUpTo}
 use Rattle.format.proofs.Commands.{length-absent}
@@ -21,7 +23,7 @@ use Rattle.format.proofs.Steps.{edge-unfit, EdgeView, edge, end, edge-view, Len
 use Rattle.format.proofs.Walk.{edges-edge, edges-length-refused, edges-end, edges-refused}
 use Rattle.format.proofs.Reading.{edge-kept, bare-stored}
 use Rattle.demands.specs.Kept.{Unmeasured, slotUnmeasured, edgesUnmeasured, decodeUnmeasured, encodeUnmeasured, LengthsKept}
-use Rattle.demands.proofs.Lifted.{Lifted, lifted, lifted-by, refused-same, accepted-same, decode-lifted, lifted-plans, lifted-read, test-same}
+use Rattle.demands.proofs.Lifted.{Lifted, lifted, lifted-by, refused-same, accepted-same, decode-lifted, lifted-plans, lifted-read, test-same, test-today, decode-same, decode-today}
 
 -- ---- records
 
@@ -56,16 +58,16 @@ unmeasured-bytes N none =
 
 -- A turn of the walk without lengths.
 module _ (turns : ℕ) (N : Network) (next : ℕ) (s : List ℕ) where
-  old-edge : {k a b : ℕ} → edgeStep (N .nodes) next s ≡ Step.Edge k a b
+  pub old-edge : {k a b : ℕ} → edgeStep (N .nodes) next s ≡ Step.Edge k a b
       → edgesUnmeasured (suc turns) N next s ≡ edgesUnmeasured turns (withEdge N k a b 0) (suc k) (drop 4 s)
   unfolding edgesUnmeasured ifTaken
   old-edge e = rw e
 
-  old-end : edgeStep (N .nodes) next s ≡ Step.End → edgesUnmeasured (suc turns) N next s ≡ accept N
+  pub old-end : edgeStep (N .nodes) next s ≡ Step.End → edgesUnmeasured (suc turns) N next s ≡ accept N
   unfolding edgesUnmeasured ifTaken
   old-end e = rw e
 
-  old-refused : {r : ℕ} → edgeStep (N .nodes) next s ≡ Step.Refused r → 0 < r → edgesUnmeasured (suc turns) N next s ≡ refuse r
+  pub old-refused : {r : ℕ} → edgeStep (N .nodes) next s ≡ Step.Refused r → 0 < r → edgesUnmeasured (suc turns) N next s ≡ refuse r
   unfolding edgesUnmeasured ifTaken
   old-refused {r} e p = rw e (refused-some r _ (refuse r) (λ z. omega arith))
 
@@ -75,7 +77,7 @@ old-unfit zero N next s h e = absurd (omega arith)
 old-unfit (suc turns) N next s h e = ap (λ d. d .refusal) (old-refused turns N next s (edge-unfit s e (N .nodes) next) (omega arith))
 
 -- An edge without metres leaves none.
-withEdge-unmeasured : (N : Network) → Stored N → (k a b : ℕ) → k < 64 → Unmeasured N → Unmeasured (withEdge N k a b 0)
+pub withEdge-unmeasured : (N : Network) → Stored N → (k a b : ℕ) → k < 64 → Unmeasured N → Unmeasured (withEdge N k a b 0)
 withEdge-unmeasured N stored k a b l none = withEdge-slots N stored k a b 0 l (λ j s. j < 64 → s .3 ≡ 0) (λ h. refl) (λ j d. none j)
 
 -- No length takes no byte.
@@ -83,7 +85,7 @@ no-length : (turns : ℕ) (N : Network) (next : ℕ) (s : List ℕ) → edges tu
 unfolding lengthSize
 no-length turns N next s = refl
 
-walk-kept : (turns : ℕ) (N : Network) (next : ℕ) (s : List ℕ) → length s ≤ turns → Stored N → Unmeasured N
+pub walk-kept : (turns : ℕ) (N : Network) (next : ℕ) (s : List ℕ) → length s ≤ turns → Stored N → Unmeasured N
     → Lifted 2 Unmeasured (edgesUnmeasured turns N next s) (edges turns N next s)
 unfolding edgesUnmeasured edges
 walk-kept zero N next s t stored none = refused-same 1 (omega arith)
@@ -123,20 +125,57 @@ walk-kept (suc turns) N next s t stored none =
     go later (EdgeView.refused r step p b) = lifted-by (old-refused turns N next s step p) (edges-refused turns N next s step p) (refused-same r p)
 
 -- A network without edges has no metres.
-bare-unmeasured : (n s t : ℕ) → Unmeasured (bare n s t)
+pub bare-unmeasured : (n s t : ℕ) → Unmeasured (bare n s t)
 unfolding bare
 bare-unmeasured n s t k l = getD-replicate 64 k 0 0 l
 
+-- The walk of today's reader, and the one without lengths.
+abbrev now : Network → List ℕ → Decoded
+now N s = edges (length s) N 0 s
+
+abbrev before : Network → List ℕ → Decoded
+before N s = edgesUnmeasured (length s) N 0 s
+
 decode-kept : (most : ℕ) (s : List ℕ) → Lifted 2 Unmeasured (decodeUnmeasured most s) (decodeUpTo most s)
-decode-kept =
-    decode-lifted (λ N s. edgesUnmeasured (length s) N 0 s)
-    (λ n a b s. walk-kept (length s) (bare n a b) 0 s (le-refl (length s)) (bare-stored n a b) (bare-unmeasured n a b))
+decode-kept most s =
+    lifted-by refl (decode-today most s)
+    (decode-lifted before now (λ n a b s. walk-kept (length s) (bare n a b) 0 s (le-refl (length s)) (bare-stored n a b) (bare-unmeasured n a b)) most s)
+
+-- Where the byte 4D does not occur, nothing changed.
+abbrev NoLength : List ℕ → Type 0
+NoLength s = (i : ℕ) → at s i ≡ 0x4D → ⊥
+
+drop-none : (n : ℕ) (s : List ℕ) → NoLength s → NoLength (drop n s)
+drop-none n s none i e = none (n + i) (sym (getD-drop n s i 0) ∙ e)
+
+walk-without : (turns : ℕ) (N : Network) (next : ℕ) (s : List ℕ) → NoLength s → edges turns N next s ≡ edgesUnmeasured turns N next s
+unfolding edges edgesUnmeasured
+walk-without zero N next s none = refl
+walk-without (suc turns) N next s none =
+    go (λ k a b. walk-without turns (withEdge N k a b 0) (suc k) (drop 4 s) (drop-none 4 s none)) (edge-view (N .nodes) next s)
+  where
+    go : ((k a b : ℕ) → edges turns (withEdge N k a b 0) (suc k) (drop 4 s) ≡ edgesUnmeasured turns (withEdge N k a b 0) (suc k) (drop 4 s))
+        → EdgeView (N .nodes) next s → edges (suc turns) N next s ≡ edgesUnmeasured (suc turns) N next s
+    go later (edge k a b rest step p h l f) = after (length-view k (drop 4 s))
+      where
+        after : LengthView k (drop 4 s) → edges (suc turns) N next s ≡ edgesUnmeasured (suc turns) N next s
+        after (unmeasured step′ none′) =
+            edges-edge turns N next s step step′ ∙ no-length turns (withEdge N k a b 0) (suc k) (drop 4 s) ∙ later k a b ∙ sym (old-edge turns N next s step)
+        after (measured high low rest′ step′ p′ some) = absurd (drop-none 4 s none 0 (ap (λ x. at x 0) p′))
+        after (LengthView.refused r step′ q c d) = absurd (drop-none 4 s none 0 d)
+    go later (end step p) = edges-end turns N next s step ∙ sym (old-end turns N next s step)
+    go later (EdgeView.refused r step p b) = edges-refused turns N next s step p ∙ sym (old-refused turns N next s step p)
+
+without : (most : ℕ) (s : List ℕ) → NoLength s → decodeUpTo most s ≡ decodeUnmeasured most s
+without most s none =
+    decode-today most s ∙ decode-same now before most s (λ N. walk-without (length (drop 5 s)) N 0 (drop 5 s) (drop-none 5 s none))
 
 -- Whatever the limit of points is.
 pub lengths-kept : (most : ℕ) → LengthsKept most
 lengths-kept most = record {
-  faults = λ N none. test-same slotUnmeasured most N (λ k l. slot-kept N k (none k l));
+  faults = λ N none. test-today most N ∙ test-same slotFault slotUnmeasured most N (λ k l. slot-kept N k (none k l));
   bytes = unmeasured-bytes;
   plans = λ s. lifted-plans (decode-kept most s);
+  without = without most;
   read = λ s. lifted-read (omega arith) (decode-kept most s);
 }

@@ -7,7 +7,8 @@ pub mod Loops
 pub mod Lengths
 pub mod Kept
 pub mod Lifted
-pub mod KeptLoops
 pub mod KeptLengths
+pub mod KeptLoops
+pub mod KeptFirst
 pub mod Halls
 pub mod Routes

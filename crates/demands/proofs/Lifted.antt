@@ -2,8 +2,8 @@
 -- lifted.
 -- Assumes nothing.
 --
---   Lifted r P t d   the earlier answer t is today's, d, and then a record that was accepted has P; or it was r, and then one that is accepted
---                    does not have P
+--   Lifted r P t d   the earlier answer t is the later one, d, and then a record that was accepted has P; or it was r, and then one that is
+--                    accepted does not have P
 use mathlib.Core.List.{List, map, foldr}
 use mathlib.Core.Logic.{_↔_}
 use mathlib.Core.Path.{_≡_, refl, sym, ap, subst, _∙_}
@@ -27,10 +27,15 @@ row-same f g zero k same = refl
 row-same f g (suc n) k same = rw (same k (omega arith), row-same f g n (suc k) (λ j l. same j (omega arith)))
 
 -- Where each slot has the same fault, the record has.
-pub test-same : (slot : Network → ℕ → ℕ) (most : ℕ) (N : Network) → ((k : ℕ) → k < 64 → slotFault N k ≡ slot N k) → faultUpTo most N ≡ testBy slot most N
+pub test-same : (slot slot′ : Network → ℕ → ℕ) (most : ℕ) (N : Network) → ((k : ℕ) → k < 64 → slot N k ≡ slot′ N k) → testBy slot most N ≡ testBy slot′ most N
+unfolding testBy
+test-same slot slot′ most N same =
+    ap (λ r. sizeFault most (N .nodes) then terminalFault (N .nodes) (N .source) (N .sink) then r) (row-same (slot N) (slot′ N) 64 0 same)
+
+-- Today's test is one by its rule for a slot.
+pub test-today : (most : ℕ) (N : Network) → faultUpTo most N ≡ testBy slotFault most N
 unfolding faultUpTo slotsFault testBy
-test-same slot most N same =
-    ap (λ r. sizeFault most (N .nodes) then terminalFault (N .nodes) (N .source) (N .sink) then r) (row-same (slotFault N) (slot N) 64 0 same)
+test-today most N = refl
 
 -- ---- the reader
 
@@ -60,14 +65,14 @@ module _ {r : ℕ} {P : Network → Type 0} where
       go (suc k) = refused-same (suc k) (omega arith)
 
   -- So it is of the readers if it is of their walks.
-  pub decode-lifted : (walk : Network → List ℕ → Decoded) → ((n a b : ℕ) (s : List ℕ) → Lifted r P (walk (bare n a b) s) (edges (length s) (bare n a b) 0 s))
-      → (most : ℕ) (s : List ℕ) → Lifted r P (decodeBy walk most s) (decodeUpTo most s)
-  unfolding decodeBy decodeUpTo
-  decode-lifted walk each most s =
+  pub decode-lifted : (walk walk′ : Network → List ℕ → Decoded) → ((n a b : ℕ) (s : List ℕ) → Lifted r P (walk (bare n a b) s) (walk′ (bare n a b) s))
+      → (most : ℕ) (s : List ℕ) → Lifted r P (decodeBy walk most s) (decodeBy walk′ most s)
+  unfolding decodeBy
+  decode-lifted walk walk′ each most s =
       taken-lifted (sizeStep most s) _ _ (λ size. taken-lifted (terminalsStep (at size 0) (drop 2 s)) _ _ (λ v.
       each (at size 0) (at v 0) (at v 1) (drop 5 s)))
 
-  -- Any other answer is today's, and what was accepted is what is accepted and has P.
+  -- Any other answer is the later one, and what was accepted is what is accepted and has P.
   pub lifted-plans : {t d : Decoded} → Lifted r P t d → (t .refusal ≡ r → ⊥) → d ≡ t
   lifted-plans (same e q) n = sym e
   lifted-plans (lifted e q) n = absurd (n e)
@@ -77,3 +82,15 @@ module _ {r : ℕ} {P : Network → Type 0} where
       let number = ap (λ (d : Decoded). d .refusal) e in
       (λ z. let ok = sym number ∙ z in (ok, q ok), λ k. number ∙ k .0)
   lifted-read p (lifted e q) = (λ z. absurd (omega arith), λ k. absurd (q (k .0) (k .1)))
+
+-- Today's reader is one by its walk.
+pub decode-today : (most : ℕ) (s : List ℕ) → decodeUpTo most s ≡ decodeBy (λ N s. edges (length s) N 0 s) most s
+unfolding decodeBy decodeUpTo
+decode-today most s = refl
+
+-- Readers by walks that give the same after the first two commands give the same.
+pub decode-same : (walk walk′ : Network → List ℕ → Decoded) (most : ℕ) (s : List ℕ) → ((N : Network) → walk N (drop 5 s) ≡ walk′ N (drop 5 s))
+    → decodeBy walk most s ≡ decodeBy walk′ most s
+unfolding decodeBy
+decode-same walk walk′ most s each =
+    λ i. ifTaken (sizeStep most s) (λ size. ifTaken (terminalsStep (at size 0) (drop 2 s)) (λ v. each (bare (at size 0) (at v 0) (at v 1)) i))

@@ -1,6 +1,7 @@
 -- What earlier plans keep where a rule was widened or went, or a command came. A widened rule as it was is today's definition at its earlier
--- limit; one that went, and the reader and the writer without the new command, are written out here. Each record speaks of one change, with
--- today's other rules: `LoopsKept 32`, `LengthsKept 32` and `PointsKept 32` lead from the first rules to today's.
+-- limit; a rule that went, and the record test, the reader and the writer before a command came, are written out here. The records follow
+-- each other: `LoopsKept` leads from the first rules, at any limit of points, to those without the rule 10, `LengthsKept` from there to
+-- those with lengths, and `PointsKept` from an earlier limit to today's. `FirstKept` is all three.
 -- To believe.
 --
 --   PointsKept before    where at most `before` points were allowed: of records and plans the refusal 4 alone is lifted, so what was
@@ -11,7 +12,16 @@
 --   testBy slot most N       the record test by the fault of each slot, where so many points are the most
 --   decodeBy walk most s     the reader by what it reads into a network from the bytes after the first two commands
 --
--- Both ends of a cable at one point were refused, as 10:
+-- Cables had no metres:
+--   Unmeasured N         no slot of N has metres: it is a record of then
+--   slotUnmeasured N k   the fault of slot k as it was
+--   edgesUnmeasured turns N next s       the edge commands and the end, read as they were
+--   decodeUnmeasured most s      the reader as it was
+--   encodeUnmeasured N   the bytes of N as they were written
+--   LengthsKept most     a record of then gets the number and the bytes that it got; of plans the refusal 2 alone is lifted, and none without
+--                        the byte 4D; what was accepted is what is accepted and has no metres
+--
+-- Before that, both ends of a cable at one point were refused, as 10:
 --   loopFault a b        the rule: a cable's two ends at one point
 --   slotWithTen N k      the fault of slot k with it
 --   faultWithTen most N      the record test with it, where so many points are the most
@@ -19,15 +29,8 @@
 --   decodeWithTen most s     the reader with it
 --   LoopsKept most       of records and plans the refusal 10 alone is lifted, so that record test and reader answer those without loops as
 --                        they did; and a network has one complete list
---
--- Cables had no metres:
---   Unmeasured N         no slot of N has metres: it is a record of then
---   slotUnmeasured N k   the fault of slot k as it was
---   edgesUnmeasured turns N next s       the edge commands and the end, read as they were
---   decodeUnmeasured most s      the reader as it was
---   encodeUnmeasured N   the bytes of N as they were written
---   LengthsKept most     a record of then gets the number and the bytes that it got; of plans the refusal 2 alone is lifted, for a 4D after
---                        a cable, and what was accepted is what is accepted and has no metres
+--   FirstKept before     from the first rules, with at most so many points, to today's: any answer but 2, 4 and 10 is today's, so that what
+--                        was accepted is accepted as it was
 use mathlib.Core.Bool.{cond, _||_}
 use mathlib.Core.List.{List, [], _∷_, _++_, map, foldr, flatMap}
 use mathlib.Core.Logic.{_↔_}
@@ -37,10 +40,10 @@ use lib.Dec.{eqb, ltb}
 use lib.ListN.{length, getD, drop}
 use Rattle.sequences.specs.Words.{onto}
 use Rattle.network.specs.declared.Network.{Network}
-use Rattle.network.specs.Record.{_when_, _then_, unlessRefused, sizeFault, terminalFault, endFault, absentFault, slots, hasEdge, firstEnd, secondEnd, metresOf, faultUpTo, faultOf, bare, withEdge, Stored}
+use Rattle.network.specs.Record.{_when_, _then_, unlessRefused, sizeFault, terminalFault, endFault, slots, hasEdge, firstEnd, secondEnd, metresOf, faultUpTo, faultOf, bare, withEdge, Stored}
 use Rattle.network.specs.Ends.{Loopless}
 use Rattle.format.specs.declared.Decoded.{Decoded}
-use Rattle.format.specs.Format.{at, sizeStep, terminalsStep, edgeStep, lengthStep, lengthSize, accept, refuse, ifTaken, decodeUpTo, decodeOf, encodeOf}
+use Rattle.format.specs.Format.{at, sizeStep, terminalsStep, edgeStep, accept, refuse, ifTaken, decodeUpTo, decodeOf, encodeOf}
 use Rattle.graph.specs.Lists.{CompleteList, SameList}
 use Rattle.connectivity.specs.Answers.{relevantOf}
 use Rattle.listing.specs.List.{mincuts, sourceSides, listedBy, cutRowsAfter, sideRowsAfter}
@@ -77,53 +80,6 @@ decodeBy walk most s =
     ifTaken (terminalsStep (at size 0) (drop 2 s)) λ terminals.
     walk (bare (at size 0) (at terminals 0) (at terminals 1)) (drop 5 s)
 
--- ---- both ends of a cable at one point
-
--- 10: both ends of a cable at one point
-unfoldable pub loopFault : ℕ → ℕ → ℕ
-loopFault a b = 10 when eqb a b
-
--- The record test as it was: slot by slot 9 and 10 if present, 13 if absent.
-unfoldable pub slotWithTen : Network → ℕ → ℕ
-slotWithTen N k =
-    let a = firstEnd N k in
-    let b = secondEnd N k in
-    cond (hasEdge N k) (endFault (N .nodes) a b then loopFault a b) (absentFault a b (metresOf N k))
-
-abbrev pub faultWithTen : ℕ → Network → ℕ
-faultWithTen = testBy slotWithTen
-
--- The reader as it was: within a cable's command 10 came last.
-unfoldable pub edgesWithTen : ℕ → Network → ℕ → List ℕ → Decoded
-edgesWithTen zero N next s = refuse 1
-edgesWithTen (suc turns) N next s =
-    ifTaken (edgeStep (N .nodes) next s) λ v. elim v [
-      | [] ↦ accept N
-      | k ∷ ends ↦
-          unlessRefused (loopFault (at ends 0) (at ends 1))
-          (ifTaken (lengthStep k (drop 4 s)) λ metres.
-          edgesWithTen turns (withEdge N k (at ends 0) (at ends 1) (at metres 0)) (suc k) (drop (lengthSize (at metres 0)) (drop 4 s)))
-          (refuse 10)
-    ]
-
-abbrev pub decodeWithTen : ℕ → List ℕ → Decoded
-decodeWithTen = decodeBy (λ N s. edgesWithTen (length s) N 0 s)
-
--- At the most points that there may be, `faultUpTo` and `decodeUpTo` are `faultOf` and `decodeOf`.
-pub record LoopsKept (most : ℕ) : Type 0 where
-  -- Any other number of the record test than 10, 0 among them, is the one that was given.
-  pub faults : (N : Network) → (faultWithTen most N ≡ 10 → ⊥) → faultUpTo most N ≡ faultWithTen most N
-  -- So is any other answer of the reader, the record too.
-  pub plans : (s : List ℕ) → (decodeWithTen most s .refusal ≡ 10 → ⊥) → decodeUpTo most s ≡ decodeWithTen most s
-  -- A record without loops gets the number that it got, whatever it is.
-  pub loopless : (N : Network) → Loopless N → faultUpTo most N ≡ faultWithTen most N
-  -- What was accepted is what is accepted and has no loop: records, and plans in bytes.
-  pub accepted : (N : Network) → Stored N → (faultWithTen most N ≡ 0) ↔ ((faultUpTo most N ≡ 0) × Loopless N)
-  pub read : (s : List ℕ) → (decodeWithTen most s .refusal ≡ 0) ↔ ((decodeUpTo most s .refusal ≡ 0) × Loopless (decodeUpTo most s .network))
-  -- Whoever listed a network, if the list was complete it was this one: `CompleteList` and all that it cites are as they were.
-  pub lists : (N : Network) (n m : ℕ) (cuts sides cuts′ sides′ : List ℕ) → CompleteList N n cuts sides → CompleteList N m cuts′ sides′
-      → SameList n cuts m cuts′ × SameList n sides m sides′
-
 -- ---- cables without metres
 
 abbrev pub Unmeasured : Network → Type 0
@@ -158,7 +114,64 @@ pub record LengthsKept (most : ℕ) : Type 0 where
   pub faults : (N : Network) → Unmeasured N → faultUpTo most N ≡ testBy slotUnmeasured most N
   -- It is written in the bytes of then.
   pub bytes : (N : Network) → Unmeasured N → encodeOf N ≡ encodeUnmeasured N
-  -- Any answer of the reader but 2, the record too, is the one that it gave.
+  -- Any answer of the reader but 2, the record too, is the one that it gave; and every answer where the byte 4D does not occur.
   pub plans : (s : List ℕ) → (decodeUnmeasured most s .refusal ≡ 2 → ⊥) → decodeUpTo most s ≡ decodeUnmeasured most s
+  pub without : (s : List ℕ) → ((i : ℕ) → at s i ≡ 0x4D → ⊥) → decodeUpTo most s ≡ decodeUnmeasured most s
   -- What was accepted is what is accepted and has no metres.
   pub read : (s : List ℕ) → (decodeUnmeasured most s .refusal ≡ 0) ↔ ((decodeUpTo most s .refusal ≡ 0) × Unmeasured (decodeUpTo most s .network))
+
+-- ---- both ends of a cable at one point
+
+-- 10: both ends of a cable at one point
+unfoldable pub loopFault : ℕ → ℕ → ℕ
+loopFault a b = 10 when eqb a b
+
+-- The first record test: slot by slot 9 and 10 if present, 13 if absent.
+unfoldable pub slotWithTen : Network → ℕ → ℕ
+slotWithTen N k =
+    let a = firstEnd N k in
+    let b = secondEnd N k in
+    cond (hasEdge N k) (endFault (N .nodes) a b then loopFault a b) (13 when (ltb 0 a || ltb 0 b))
+
+abbrev pub faultWithTen : ℕ → Network → ℕ
+faultWithTen = testBy slotWithTen
+
+-- The first reader: within a cable's command 10 came last.
+unfoldable pub edgesWithTen : ℕ → Network → ℕ → List ℕ → Decoded
+edgesWithTen zero N next s = refuse 1
+edgesWithTen (suc turns) N next s =
+    ifTaken (edgeStep (N .nodes) next s) λ v. elim v [
+      | [] ↦ accept N
+      | k ∷ ends ↦
+          unlessRefused (loopFault (at ends 0) (at ends 1))
+          (edgesWithTen turns (withEdge N k (at ends 0) (at ends 1) 0) (suc k) (drop 4 s))
+          (refuse 10)
+    ]
+
+abbrev pub decodeWithTen : ℕ → List ℕ → Decoded
+decodeWithTen = decodeBy (λ N s. edgesWithTen (length s) N 0 s)
+
+pub record LoopsKept (most : ℕ) : Type 0 where
+  -- Any other number of the record test than 10, 0 among them, is the one that was given.
+  pub faults : (N : Network) → (faultWithTen most N ≡ 10 → ⊥) → testBy slotUnmeasured most N ≡ faultWithTen most N
+  -- So is any other answer of the reader, the record too.
+  pub plans : (s : List ℕ) → (decodeWithTen most s .refusal ≡ 10 → ⊥) → decodeUnmeasured most s ≡ decodeWithTen most s
+  -- A record without loops gets the number that it got, whatever it is.
+  pub loopless : (N : Network) → Loopless N → testBy slotUnmeasured most N ≡ faultWithTen most N
+  -- What was accepted is what is accepted and has no loop: records, and plans in bytes.
+  pub accepted : (N : Network) → Stored N → (faultWithTen most N ≡ 0) ↔ ((testBy slotUnmeasured most N ≡ 0) × Loopless N)
+  pub read : (s : List ℕ) → (decodeWithTen most s .refusal ≡ 0) ↔ ((decodeUnmeasured most s .refusal ≡ 0) × Loopless (decodeUnmeasured most s .network))
+  -- Whoever listed a network, if the list was complete it was this one: `CompleteList` and all that it cites are as they were.
+  pub lists : (N : Network) (n m : ℕ) (cuts sides cuts′ sides′ : List ℕ) → CompleteList N n cuts sides → CompleteList N m cuts′ sides′
+      → SameList n cuts m cuts′ × SameList n sides m sides′
+
+-- ---- from the first rules to today's
+
+pub record FirstKept (before : ℕ) : Type 0 where
+  -- A record of then is one without metres.
+  pub faults : (N : Network) → Unmeasured N → (faultWithTen before N ≡ 10 → ⊥) → (faultWithTen before N ≡ 4 → ⊥) → faultOf N ≡ faultWithTen before N
+  pub plans : (s : List ℕ) → (decodeWithTen before s .refusal ≡ 10 → ⊥) → (decodeWithTen before s .refusal ≡ 2 → ⊥)
+      → (decodeWithTen before s .refusal ≡ 4 → ⊥) → decodeOf s ≡ decodeWithTen before s
+  -- What was accepted: the same record is read from the same bytes, it is accepted, and its bytes are the ones that were written.
+  pub read : (s : List ℕ) → decodeWithTen before s .refusal ≡ 0 → (decodeOf s ≡ decodeWithTen before s) × Unmeasured (decodeOf s .network)
+  pub bytes : (N : Network) → Unmeasured N → encodeOf N ≡ encodeUnmeasured N

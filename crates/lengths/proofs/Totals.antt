@@ -2,8 +2,8 @@
 -- Assumes nothing.
 use mathlib.Core.Bool.{Bool, true, false}
 use mathlib.Core.List.{List, [], _∷_}
-use mathlib.Core.Path.{_≡_, ap}
-use Prim.Native.Nat.{ℕ, zero, suc, _+_, _^_, _≤_, _<_, zero-le}
+use mathlib.Core.Path.{_≡_, sym, ap, _∙_}
+use Prim.Native.Nat.{ℕ, zero, suc, _+_, _*_, _^_, _≤_, _<_, zero-le}
 use native.Mathlib.Omega.{arith}
 use lib.Dec.{ltb}
 use lib.ListN.{length}
@@ -66,20 +66,21 @@ module _ (N : Network) (c : ℕ) where
   unfolding totalOf
   total-given r t e none f = rw (← e, none, f)
 
-  module _ (stored : Stored N) where
-    -- What the answer means.
-    total-means : TotalMeans N c (totalOf N c .refusal) (totalOf N c .metres)
-    unfolding totalOf
-    total-means = record {
-      stored = stored;
-      kept = (
-        λ e. let p = set-ok N c e in (fault-rules N .0 (p .0), p .1),
-        λ p. set-none N c (fault-rules N .1 (p .0)) (p .1),
-      );
-      total = λ e. refused-none (totalMetres N c) 0 e;
-      refused = λ f. refused-some (setFault N c) (totalMetres N c) 0 f;
-    }
-
-    -- Beside the answer stands what it means.
-    pub answer-means : {m : Measured} → m ≡ totalOf N c → (m ≡ totalOf N c) × TotalMeans N c (m .refusal) (m .metres)
-    answer-means e = (e, rw e total-means)
+  -- Beside the answer stands what it means.
+  pub answer-means : Stored N → {m : Measured} → m ≡ totalOf N c → m .metres ≤ 64 * 65535 → (m ≡ totalOf N c) × TotalMeans N c (m .refusal) (m .metres)
+  unfolding totalOf
+  answer-means stored e most =
+      let refusal = ap (λ (m : Measured). m .refusal) e in
+      let metres = ap (λ (m : Measured). m .metres) e in (
+        e,
+        record {
+          stored = stored;
+          kept = (
+            λ z. let p = set-ok N c (sym refusal ∙ z) in (fault-rules N .0 (p .0), p .1),
+            λ p. refusal ∙ set-none N c (fault-rules N .1 (p .0)) (p .1),
+          );
+          total = λ z. metres ∙ refused-none (totalMetres N c) 0 (sym refusal ∙ z);
+          refused = λ f. metres ∙ refused-some (setFault N c) (totalMetres N c) 0 (λ z. f (refusal ∙ z));
+          most = most;
+        },
+      )

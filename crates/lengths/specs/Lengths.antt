@@ -7,7 +7,7 @@
 use mathlib.Core.List.{map}
 use mathlib.Core.Logic.{_↔_}
 use mathlib.Core.Path.{_≡_}
-use Prim.Native.Nat.{ℕ}
+use Prim.Native.Nat.{ℕ, _*_, _≤_}
 use Rattle.sequences.specs.Counts.{sum}
 use Rattle.bitset.specs.Members.{_⊆_, members}
 use Rattle.network.specs.declared.Network.{Network}
@@ -27,3 +27,5 @@ pub record TotalMeans (N : Network) (c r m : ℕ) : Type 0 where
   pub kept : (r ≡ 0) ↔ (Rules N × (c ⊆ present N))
   pub total : r ≡ 0 → m ≡ totalMetres N c
   pub refused : (r ≡ 0 → ⊥) → m ≡ 0
+  -- 64 edges of 65,535 metres.
+  pub most : m ≤ 64 * 65535

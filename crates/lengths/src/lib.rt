@@ -3,7 +3,7 @@ use edge_set::EdgeSet;
 use network::Network;
 use network::set_fault;
 ghost use mathlib.Core.Path.{_≡_};
-ghost use Prim.Native.Nat.{_<_};
+ghost use Prim.Native.Nat.{_*_, _≤_, _<_};
 ghost use Rattle.network.specs.Record.{metresOf};
 ghost use Rattle.lengths.specs.Lengths.{totalMetres, totalOf, TotalMeans};
 
@@ -21,9 +21,9 @@ fn metres_of(network: Network, edge: u32) -> u16
     network.metres[edge as usize]
 }
 
-// The metres of all members of the set together.
+// The metres of all members of the set together: at most 65,535 for each.
 fn total_metres(network: Network, set: EdgeSet) -> u32
-    ensures { λ r. ⌜ r ≡ totalMetres network (set .0) ⌝ }
+    ensures { λ r. ⌜ (r ≡ totalMetres network (set .0)) × (r ≤ 64 * 65535) ⌝ }
 {
     let mut total: u32 = 0;
     let mut left = set;

@@ -34,7 +34,7 @@ returns : tie.Need-returns Inv-loop μ-loop
 returns c =
     let l = c .before .before .loop in
     let none = total-none (c .before .before .before .args .network) (l .left .0) _ (c .before .lowest .ensures) (c .if1 .taken) in
-    omega (arith, l .inv .whole, none)
+    (omega (arith, l .inv .whole, none), omega (arith, l .inv .room))
 
 metres-of-requires : tie.Need-metres-of-requires Inv-loop μ-loop
 metres-of-requires c κs = search needs
