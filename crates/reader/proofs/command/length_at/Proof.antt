@@ -26,7 +26,7 @@ sub-left c = search needs
 returns-3 : tie.Need-returns-3
 returns-3 c =
     let a = c .before .before .before .before .before .args in
-    length-missing (a .plan .now) (a .at) (a .before) (c .before .if2 .left) (c .if3 .taken)
+    length-missing (a .plan .now) (a .at) (a .before) (c .before .if2 .left) (omega (arith, c .if3 .taken))
 
 add-edge : tie.Need-add-edge
 add-edge c = search needs
