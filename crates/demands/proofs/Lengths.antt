@@ -15,9 +15,10 @@ use Rattle.bitset.specs.Members.{_⊆_}
 use Rattle.bitset.proofs.Subsets.{⊆-refl, subset-and}
 use Rattle.node_set.specs.Width.{nodeWidth}
 use Rattle.network.specs.declared.Network.{Network}
-use Rattle.network.specs.Record.{_then_, withEdge, present}
+use Rattle.network.specs.Record.{_then_, among, withEdge, present}
 use Rattle.network.proofs.Refusals.{none-then, some-then, some-when, none-when}
 use Rattle.network.proofs.Rules.{none-size, none-outside}
+use Rattle.network.proofs.Numbers.{not-fault}
 use Rattle.network.proofs.Sets.{set-absent}
 use Rattle.format.specs.declared.Step.{Step}
 use Rattle.format.specs.Format.{at, metresIn, lengthFault, lengthRefusal, answer, edgeStep, lengthStep, lengthSize, refuse, walk, decodeUpTo}
@@ -93,7 +94,7 @@ elsewhere N next [] e = absurd (let bad : _≡_ {A = ℕ} 0 0x4D = e in omega ar
 elsewhere N next (x ∷ s) e = edges-refused (length s) N next (x ∷ s) (edge-unfit (x ∷ s) e (N .nodes) next) (omega arith)
 
 pub length-places : LengthPlaces
-unfolding decodeUpTo
+unfolding decodeUpTo among
 length-places = record {
   short = λ N next k a b s fits e h. stops N next k a b s fits 1 (omega arith) (by-refusal k s e 1 (short-refusal k s e h));
   wrong = λ N next k a b s fits e h bad.
@@ -109,6 +110,7 @@ length-places = record {
       size-goes (0x50 ∷ n ∷ s) refl (size-taken nodeWidth n s (none-size nodeWidth n (fit .0) (fit .1))) refl
       ∙ refusal-decides _ (terminals-unfit s e n) (omega arith);
   after = λ N next s. edges-refused (suc (length s)) N next (0x45 ∷ 0x4D ∷ s) (end-refused (N .nodes) next 0x4D s) (omega arith);
+  record-never = λ N. not-fault N 28 (λ t. t);
 }
 
 -- ---- in a record

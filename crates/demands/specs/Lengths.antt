@@ -46,6 +46,8 @@ pub record LengthPlaces : Type 0 where
   pub second : (n : ℕ) (s : List ℕ) → (2 ≤ n) × (n ≤ nodeWidth) → at s 0 ≡ 0x4D → decodeOf (0x50 ∷ n ∷ s) ≡ refuse 2
   -- After 45 it is 3, as any byte is.
   pub after : (N : Network) (next : ℕ) (s : List ℕ) → walk N next (0x45 ∷ 0x4D ∷ s) ≡ refuse 3
+  -- 28 is of bytes alone: no record has this fault.
+  pub record-never : (N : Network) → faultOf N ≡ 28 → ⊥
 
 -- ---- in a record
 
