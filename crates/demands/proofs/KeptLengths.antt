@@ -5,14 +5,14 @@ use mathlib.Core.List.{List, [], _∷_, _++_, flatMap}
 use mathlib.Core.Path.{_≡_, refl, sym, ap, _∙_}
 use Prim.Native.Nat.{ℕ, zero, suc, _+_, _*_, _≤_, _<_}
 use native.Mathlib.Nat.{le-refl}
+use native.Mathlib.Decide.{decLt}
 use native.Mathlib.Omega.{arith}
 use borrow.Author.Tests.{le-ltb}
 use lib.Dec.{ltb}
-use lib.ListN.{length, drop, getD-replicate}
+use lib.ListN.{length, drop, replicate, getD-replicate, List·getD-eq-default}
 use lib.Seq.{getD-drop}
-use Rattle.sequences.specs.Words.{range}
 use Rattle.network.specs.declared.Network.{Network}
-use Rattle.network.specs.Record.{_when_, endFault, absentFault, Slot, hasEdge, firstEnd, secondEnd, metresOf, slotFault, bare, withEdge, Stored}
+use Rattle.network.specs.Record.{_when_, endFault, absentFault, slots, Slot, hasEdge, firstEnd, secondEnd, metresOf, slotFault, bare, withEdge, Stored}
 use Rattle.network.proofs.Refusals.{refused-some}
 use Rattle.network.proofs.Slots.{withEdge-stored, withEdge-slots}
 use Rattle.format.specs.declared.Decoded.{Decoded}
@@ -44,15 +44,10 @@ command-kept : (N : Network) (k : ℕ) → metresOf N k ≡ 0 → edgeCommand N 
 unfolding edgeCommand
 command-kept N k z = ap (λ c. cond (hasEdge N k) (0x43 ∷ k ∷ firstEnd N k ∷ secondEnd N k ∷ c) []) (length-absent k (metresOf N k) z)
 
-commands-kept : (f g : ℕ → List ℕ) (n k : ℕ) → ((j : ℕ) → j < k + n → f j ≡ g j) → flatMap f (range k n) ≡ flatMap g (range k n)
-unfolding flatMap range
-commands-kept f g zero k same = refl
-commands-kept f g (suc n) k same = rw (same k (omega arith), commands-kept f g n (suc k) (λ j l. same j (omega arith)))
-
 pub unmeasured-bytes : (N : Network) → Unmeasured N → encodeOf N ≡ encodeUnmeasured N
 unfolding encodeOf encodeUnmeasured
 unmeasured-bytes N none =
-    ap (λ c. 0x50 ∷ N .nodes ∷ 0x53 ∷ N .source ∷ N .sink ∷ (c ++ 0x45 ∷ [])) (commands-kept _ _ 64 0 (λ k l. command-kept N k (none k l)))
+    λ i. 0x50 ∷ N .nodes ∷ 0x53 ∷ N .source ∷ N .sink ∷ (flatMap (λ (k : ℕ). command-kept N k (none k) i) slots ++ 0x45 ∷ [])
 
 -- ---- plans
 
@@ -78,7 +73,7 @@ old-unfit (suc turns) N next s h e = ap (λ d. d .refusal) (old-refused turns N 
 
 -- An edge without metres leaves none.
 pub withEdge-unmeasured : (N : Network) → Stored N → (k a b : ℕ) → k < 64 → Unmeasured N → Unmeasured (withEdge N k a b 0)
-withEdge-unmeasured N stored k a b l none = withEdge-slots N stored k a b 0 l (λ j s. j < 64 → s .3 ≡ 0) (λ h. refl) (λ j d. none j)
+withEdge-unmeasured N stored k a b l none = withEdge-slots N stored k a b 0 l (λ j s. s .3 ≡ 0) refl (λ j d. none j)
 
 -- No length takes no byte.
 no-length : (turns : ℕ) (N : Network) (next : ℕ) (s : List ℕ) → edges turns N next (drop (lengthSize 0) s) ≡ edges turns N next s
@@ -117,7 +112,7 @@ walk-kept (suc turns) N next s t stored none =
             let goes = edges-edge turns N next s step step′ in
             let last : List ℕ = drop (lengthSize (high * 256 + low)) (drop 4 s) in
             let held = edge-kept turns N stored k a b (high * 256 + low) last l (sym (ap (λ d. d .refusal) goes) ∙ ok) in
-            some (sym (ap (λ (x : Slot). x .3) held) ∙ sym (ap (λ d. metresOf (d .network) k) goes) ∙ none′ k l))
+            some (sym (ap (λ (x : Slot). x .3) held) ∙ sym (ap (λ d. metresOf (d .network) k) goes) ∙ none′ k))
         after (LengthView.refused r step′ q c d) =
             lifted (refused-two d) (λ ok none′.
             absurd (omega (arith, ap (λ x. x .refusal) (edges-length-refused turns N next s step step′ q))))
@@ -127,7 +122,11 @@ walk-kept (suc turns) N next s t stored none =
 -- A network without edges has no metres.
 pub bare-unmeasured : (n s t : ℕ) → Unmeasured (bare n s t)
 unfolding bare
-bare-unmeasured n s t k l = getD-replicate 64 k 0 0 l
+bare-unmeasured n s t k = go (decLt k 64)
+  where
+    go : Dec (k < 64) → metresOf (bare n s t) k ≡ 0
+    go (yes l) = getD-replicate 64 k 0 0 l
+    go (no l) = let past : 64 ≤ k = omega arith in List·getD-eq-default (replicate 64 0) 0 past
 
 -- The walk of today's reader, and the one without lengths.
 abbrev now : Network → List ℕ → Decoded
@@ -173,7 +172,7 @@ without most s none =
 -- Whatever the limit of points is.
 pub lengths-kept : (most : ℕ) → LengthsKept most
 lengths-kept most = record {
-  faults = λ N none. test-today most N ∙ test-same slotFault slotUnmeasured most N (λ k l. slot-kept N k (none k l));
+  faults = λ N none. test-today most N ∙ test-same slotFault slotUnmeasured most N (λ k. slot-kept N k (none k));
   bytes = unmeasured-bytes;
   plans = λ s. lifted-plans (decode-kept most s);
   without = without most;

@@ -82,7 +82,7 @@ faults most N =
 loopless : (most : ℕ) (N : Network) → Loopless N → testBy slotUnmeasured most N ≡ faultWithTen most N
 loopless most N none =
     test-same slotUnmeasured slotWithTen most N
-    (λ k l. elim (slot-cases N k) [ inl e ↦ sym e | inr c ↦ absurd (none k (secondEnd N k) (c .0)) ])
+    (λ k. elim (slot-cases N k) [ inl e ↦ sym e | inr c ↦ absurd (none k (secondEnd N k) (c .0)) ])
 
 -- An accepted record had no loop, since no slot had a fault.
 accepted : (most : ℕ) (N : Network) → Stored N → (faultWithTen most N ≡ 0) ↔ ((testBy slotUnmeasured most N ≡ 0) × Loopless N)

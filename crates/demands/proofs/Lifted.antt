@@ -7,12 +7,11 @@
 use mathlib.Core.List.{List, map, foldr}
 use mathlib.Core.Logic.{_↔_}
 use mathlib.Core.Path.{_≡_, refl, sym, ap, subst, _∙_}
-use Prim.Native.Nat.{ℕ, zero, suc, _+_, _<_}
+use Prim.Native.Nat.{ℕ, zero, suc, _<_}
 use native.Mathlib.Omega.{arith}
 use lib.ListN.{length, drop}
 use Rattle.network.specs.declared.Network.{Network}
-use Rattle.sequences.specs.Words.{range}
-use Rattle.network.specs.Record.{_then_, unlessRefused, sizeFault, terminalFault, slotFault, slotsFault, faultUpTo, bare}
+use Rattle.network.specs.Record.{_then_, unlessRefused, sizeFault, terminalFault, slots, slotFault, slotsFault, faultUpTo, bare}
 use Rattle.format.specs.declared.Decoded.{Decoded}
 use Rattle.format.specs.declared.Step.{Step}
 use Rattle.format.specs.Format.{at, sizeStep, terminalsStep, told, accept, refuse, ifTaken, edges, decodeUpTo}
@@ -20,17 +19,14 @@ use Rattle.demands.specs.Kept.{testBy, decodeBy}
 
 -- ---- the record test
 
--- A row of equal faults has the same first one.
-row-same : (f g : ℕ → ℕ) (n k : ℕ) → ((j : ℕ) → j < k + n → f j ≡ g j) → foldr _then_ 0 (map f (range k n)) ≡ foldr _then_ 0 (map g (range k n))
-unfolding range
-row-same f g zero k same = refl
-row-same f g (suc n) k same = rw (same k (omega arith), row-same f g n (suc k) (λ j l. same j (omega arith)))
-
 -- Where each slot has the same fault, the record has.
-pub test-same : (slot slot′ : Network → ℕ → ℕ) (most : ℕ) (N : Network) → ((k : ℕ) → k < 64 → slot N k ≡ slot′ N k) → testBy slot most N ≡ testBy slot′ most N
+pub test-same : (slot slot′ : Network → ℕ → ℕ) (most : ℕ) (N : Network) → ((k : ℕ) → slot N k ≡ slot′ N k) → testBy slot most N ≡ testBy slot′ most N
 unfolding testBy
-test-same slot slot′ most N same =
-    ap (λ r. sizeFault most (N .nodes) then terminalFault (N .nodes) (N .source) (N .sink) then r) (row-same (slot N) (slot′ N) 64 0 same)
+test-same slot slot′ most N each =
+    λ i.
+    sizeFault most (N .nodes)
+    then terminalFault (N .nodes) (N .source) (N .sink)
+    then foldr _then_ 0 (map (λ (k : ℕ). each k i) slots)
 
 -- Today's test is one by its rule for a slot.
 pub test-today : (most : ℕ) (N : Network) → faultUpTo most N ≡ testBy slotFault most N

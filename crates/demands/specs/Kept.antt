@@ -82,8 +82,9 @@ decodeBy walk most s =
 
 -- ---- cables without metres
 
+-- Past the slots there are no metres anyway.
 abbrev pub Unmeasured : Network → Type 0
-Unmeasured N = (k : ℕ) → k < 64 → metresOf N k ≡ 0
+Unmeasured N = (k : ℕ) → metresOf N k ≡ 0
 
 -- 13 was: an absent cable with an end not 0
 unfoldable pub slotUnmeasured : Network → ℕ → ℕ
