@@ -23,7 +23,7 @@ use Rattle.format.proofs.Steps.{edge-unfit, EdgeView, edge, end, edge-view, Len
 use Rattle.format.proofs.Walk.{edges-edge, edges-length-refused, edges-end, edges-refused}
 use Rattle.format.proofs.Reading.{edge-kept, bare-stored}
 use Rattle.demands.specs.Kept.{Unmeasured, slotUnmeasured, edgesUnmeasured, decodeUnmeasured, encodeUnmeasured, LengthsKept}
-use Rattle.demands.proofs.Lifted.{Lifted, lifted, lifted-by, refused-same, accepted-same, decode-lifted, lifted-plans, lifted-read, test-same, test-today, decode-same, decode-today}
+use Rattle.demands.proofs.Lifted.{Lifted, lifted, lifted-by, refused-same, accepted-same, decode-lifted, lifted-plans, lifted-without, lifted-read, test-same, test-today, decode-today}
 
 -- ---- records
 
@@ -80,18 +80,24 @@ no-length : (turns : ℕ) (N : Network) (next : ℕ) (s : List ℕ) → edges tu
 unfolding lengthSize
 no-length turns N next s = refl
 
-pub walk-kept : (turns : ℕ) (N : Network) (next : ℕ) (s : List ℕ) → length s ≤ turns → Stored N → Unmeasured N
-    → Lifted 2 Unmeasured (edgesUnmeasured turns N next s) (edges turns N next s)
+-- What follows from the byte 4D in a plan follows from it in what is left of the plan.
+seen-later : {W : Type 0} (n : ℕ) (s : List ℕ) → ((i : ℕ) → at s i ≡ 0x4D → W) → (i : ℕ) → at (drop n s) i ≡ 0x4D → W
+seen-later n s seen i e = seen (n + i) (sym (getD-drop n s i 0) ∙ e)
+
+-- Where the walks part, the byte 4D occurs.
+pub walk-kept : (W : Type 0) (turns : ℕ) (N : Network) (next : ℕ) (s : List ℕ) → length s ≤ turns → Stored N → Unmeasured N
+    → ((i : ℕ) → at s i ≡ 0x4D → W) → Lifted 2 W Unmeasured (edgesUnmeasured turns N next s) (edges turns N next s)
 unfolding edgesUnmeasured edges
-walk-kept zero N next s t stored none = refused-same 1 (omega arith)
-walk-kept (suc turns) N next s t stored none =
+walk-kept W zero N next s t stored none seen = refused-same 1 (omega arith)
+walk-kept W (suc turns) N next s t stored none seen =
     go (λ k a b l p.
-    walk-kept turns (withEdge N k a b 0) (suc k) (drop 4 s) p (withEdge-stored N stored k a b 0 l) (withEdge-unmeasured N stored k a b l none))
+    walk-kept W turns (withEdge N k a b 0) (suc k) (drop 4 s) p (withEdge-stored N stored k a b 0 l) (withEdge-unmeasured N stored k a b l none)
+    (seen-later 4 s seen))
     (edge-view (N .nodes) next s)
   where
     go : ((k a b : ℕ) → k < 64 → length (drop 4 s) ≤ turns
-        → Lifted 2 Unmeasured (edgesUnmeasured turns (withEdge N k a b 0) (suc k) (drop 4 s)) (edges turns (withEdge N k a b 0) (suc k) (drop 4 s)))
-        → EdgeView (N .nodes) next s → Lifted 2 Unmeasured (edgesUnmeasured (suc turns) N next s) (edges (suc turns) N next s)
+        → Lifted 2 W Unmeasured (edgesUnmeasured turns (withEdge N k a b 0) (suc k) (drop 4 s)) (edges turns (withEdge N k a b 0) (suc k) (drop 4 s)))
+        → EdgeView (N .nodes) next s → Lifted 2 W Unmeasured (edgesUnmeasured (suc turns) N next s) (edges (suc turns) N next s)
     go later (edge k a b rest step p h l f) = after (length-view k (drop 4 s))
       where
         -- At least the edge's bytes are taken.
@@ -103,18 +109,18 @@ walk-kept (suc turns) N next s t stored none =
         refused-two e =
             ap (λ d. d .refusal) (old-edge turns N next s step) ∙ old-unfit turns (withEdge N k a b 0) (suc k) (drop 4 s) (omega (arith, fewer)) e
 
-        after : LengthView k (drop 4 s) → Lifted 2 Unmeasured (edgesUnmeasured (suc turns) N next s) (edges (suc turns) N next s)
+        after : LengthView k (drop 4 s) → Lifted 2 W Unmeasured (edgesUnmeasured (suc turns) N next s) (edges (suc turns) N next s)
         after (unmeasured step′ none′) =
             lifted-by (old-edge turns N next s step) (edges-edge turns N next s step step′ ∙ no-length turns (withEdge N k a b 0) (suc k) (drop 4 s))
             (later k a b l (omega (arith, fewer)))
         after (measured high low rest′ step′ p′ some) =
-            lifted (refused-two (ap (λ x. at x 0) p′)) (λ ok none′.
+            lifted (seen-later 4 s seen 0 (ap (λ x. at x 0) p′)) (refused-two (ap (λ x. at x 0) p′)) (λ ok none′.
             let goes = edges-edge turns N next s step step′ in
             let last : List ℕ = drop (lengthSize (high * 256 + low)) (drop 4 s) in
             let held = edge-kept turns N stored k a b (high * 256 + low) last l (sym (ap (λ d. d .refusal) goes) ∙ ok) in
             some (sym (ap (λ (x : Slot). x .3) held) ∙ sym (ap (λ d. metresOf (d .network) k) goes) ∙ none′ k))
         after (LengthView.refused r step′ q c d) =
-            lifted (refused-two d) (λ ok none′.
+            lifted (seen-later 4 s seen 0 d) (refused-two d) (λ ok none′.
             absurd (omega (arith, ap (λ x. x .refusal) (edges-length-refused turns N next s step step′ q))))
     go later (end step p) = lifted-by (old-end turns N next s step) (edges-end turns N next s step) (accepted-same N none)
     go later (EdgeView.refused r step p b) = lifted-by (old-refused turns N next s step p) (edges-refused turns N next s step p) (refused-same r p)
@@ -135,39 +141,13 @@ now N s = edges (length s) N 0 s
 abbrev before : Network → List ℕ → Decoded
 before N s = edgesUnmeasured (length s) N 0 s
 
-decode-kept : (most : ℕ) (s : List ℕ) → Lifted 2 Unmeasured (decodeUnmeasured most s) (decodeUpTo most s)
+-- Where the readers part, the byte 4D occurs.
+decode-kept : (most : ℕ) (s : List ℕ) → Lifted 2 (((i : ℕ) → at s i ≡ 0x4D → ⊥) → ⊥) Unmeasured (decodeUnmeasured most s) (decodeUpTo most s)
 decode-kept most s =
     lifted-by refl (decode-today most s)
-    (decode-lifted before now (λ n a b s. walk-kept (length s) (bare n a b) 0 s (le-refl (length s)) (bare-stored n a b) (bare-unmeasured n a b)) most s)
-
--- Where the byte 4D does not occur, nothing changed.
-abbrev NoLength : List ℕ → Type 0
-NoLength s = (i : ℕ) → at s i ≡ 0x4D → ⊥
-
-drop-none : (n : ℕ) (s : List ℕ) → NoLength s → NoLength (drop n s)
-drop-none n s none i e = none (n + i) (sym (getD-drop n s i 0) ∙ e)
-
-walk-without : (turns : ℕ) (N : Network) (next : ℕ) (s : List ℕ) → NoLength s → edges turns N next s ≡ edgesUnmeasured turns N next s
-unfolding edges edgesUnmeasured
-walk-without zero N next s none = refl
-walk-without (suc turns) N next s none =
-    go (λ k a b. walk-without turns (withEdge N k a b 0) (suc k) (drop 4 s) (drop-none 4 s none)) (edge-view (N .nodes) next s)
-  where
-    go : ((k a b : ℕ) → edges turns (withEdge N k a b 0) (suc k) (drop 4 s) ≡ edgesUnmeasured turns (withEdge N k a b 0) (suc k) (drop 4 s))
-        → EdgeView (N .nodes) next s → edges (suc turns) N next s ≡ edgesUnmeasured (suc turns) N next s
-    go later (edge k a b rest step p h l f) = after (length-view k (drop 4 s))
-      where
-        after : LengthView k (drop 4 s) → edges (suc turns) N next s ≡ edgesUnmeasured (suc turns) N next s
-        after (unmeasured step′ none′) =
-            edges-edge turns N next s step step′ ∙ no-length turns (withEdge N k a b 0) (suc k) (drop 4 s) ∙ later k a b ∙ sym (old-edge turns N next s step)
-        after (measured high low rest′ step′ p′ some) = absurd (drop-none 4 s none 0 (ap (λ x. at x 0) p′))
-        after (LengthView.refused r step′ q c d) = absurd (drop-none 4 s none 0 d)
-    go later (end step p) = edges-end turns N next s step ∙ sym (old-end turns N next s step)
-    go later (EdgeView.refused r step p b) = edges-refused turns N next s step p ∙ sym (old-refused turns N next s step p)
-
-without : (most : ℕ) (s : List ℕ) → NoLength s → decodeUpTo most s ≡ decodeUnmeasured most s
-without most s none =
-    decode-today most s ∙ decode-same now before most s (λ N. walk-without (length (drop 5 s)) N 0 (drop 5 s) (drop-none 5 s none))
+    (decode-lifted before now most s (λ n a b.
+    walk-kept _ (length (drop 5 s)) (bare n a b) 0 (drop 5 s) (le-refl (length (drop 5 s))) (bare-stored n a b) (bare-unmeasured n a b)
+    (seen-later 5 s (λ i e none. none i e))))
 
 -- Whatever the limit of points is.
 pub lengths-kept : (most : ℕ) → LengthsKept most
@@ -175,6 +155,6 @@ lengths-kept most = record {
   faults = λ N none. test-today most N ∙ test-same slotFault slotUnmeasured most N (λ k. slot-kept N k (none k));
   bytes = unmeasured-bytes;
   plans = λ s. lifted-plans (decode-kept most s);
-  without = without most;
+  without = λ s none. lifted-without (decode-kept most s) (λ some. some none);
   read = λ s. lifted-read (omega arith) (decode-kept most s);
 }

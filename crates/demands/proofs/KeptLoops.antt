@@ -135,26 +135,27 @@ module _ (turns : ℕ) (N : Network) (k a b : ℕ) (s : List ℕ) where
   has-edge : length s ≤ turns → Stored N → Unmeasured N → k < 64 → now .refusal ≡ 0 → slot (now .network) k ≡ (true, a, b, 0)
   has-edge t stored none l ok =
       let later : edges turns (withEdge N k a b 0) (suc k) s ≡ now =
-      lifted-plans (walk-kept turns (withEdge N k a b 0) (suc k) s t (withEdge-stored N stored k a b 0 l) (withEdge-unmeasured N stored k a b l none))
+      lifted-plans (walk-kept (Unit {0}) turns (withEdge N k a b 0) (suc k) s t (withEdge-stored N stored k a b 0 l) (withEdge-unmeasured N stored k a b l none)
+      (λ i e. tt))
       (λ two. omega arith) in
       sym (ap (λ (d : Decoded). slot (d .network) k) later)
       ∙ edge-kept turns N stored k a b 0 s l (ap (λ (d : Decoded). d .refusal) later ∙ ok)
 
   -- The command was refused if its ends are one point.
-  edge-ten : length s ≤ turns → Stored N → Unmeasured N → k < 64 → ((a ≡ b → ⊥) → Lifted 10 Loopless before now)
-      → Lifted 10 Loopless (unlessRefused (loopFault a b) before (refuse 10)) now
+  edge-ten : length s ≤ turns → Stored N → Unmeasured N → k < 64 → ((a ≡ b → ⊥) → Lifted 10 (Unit {0}) Loopless before now)
+      → Lifted 10 (Unit {0}) Loopless (unlessRefused (loopFault a b) before (refuse 10)) now
   unfolding loopFault
   edge-ten t stored none l on = go (eqb a b) refl
     where
-      go : (z : Bool) → eqb a b ≡ z → Lifted 10 Loopless (unlessRefused (loopFault a b) before (refuse 10)) now
+      go : (z : Bool) → eqb a b ≡ z → Lifted 10 (Unit {0}) Loopless (unlessRefused (loopFault a b) before (refuse 10)) now
       go true e =
-          lifted (ap (λ r. unlessRefused r before (refuse 10) .refusal) (some-when 10 e))
+          lifted tt (ap (λ r. unlessRefused r before (refuse 10) .refusal) (some-when 10 e))
           (λ ok loops. loops k b (subst (LoopSlot b) (sym (has-edge t stored none l ok)) (tt, eqb-true a b e, refl)))
       go false e = lifted-by (ap (λ r. unlessRefused r before (refuse 10)) (none-when 10 e)) refl (on (eqb-false a b e))
 
 -- The walk.
 walk-ten : (turns : ℕ) (N : Network) (next : ℕ) (s : List ℕ) → length s ≤ turns → Stored N → Unmeasured N → Loopless N
-    → Lifted 10 Loopless (edgesWithTen turns N next s) (edgesUnmeasured turns N next s)
+    → Lifted 10 (Unit {0}) Loopless (edgesWithTen turns N next s) (edgesUnmeasured turns N next s)
 unfolding edgesWithTen edgesUnmeasured
 walk-ten zero N next s t stored none loops = refused-same 1 (omega arith)
 walk-ten (suc turns) N next s t stored none loops =
@@ -164,8 +165,8 @@ walk-ten (suc turns) N next s t stored none loops =
     (edge-view (N .nodes) next s)
   where
     go : ((k a b : ℕ) → k < 64 → length (drop 4 s) ≤ turns → (a ≡ b → ⊥)
-        → Lifted 10 Loopless (edgesWithTen turns (withEdge N k a b 0) (suc k) (drop 4 s)) (edgesUnmeasured turns (withEdge N k a b 0) (suc k) (drop 4 s)))
-        → EdgeView (N .nodes) next s → Lifted 10 Loopless (edgesWithTen (suc turns) N next s) (edgesUnmeasured (suc turns) N next s)
+        → Lifted 10 (Unit {0}) Loopless (edgesWithTen turns (withEdge N k a b 0) (suc k) (drop 4 s)) (edgesUnmeasured turns (withEdge N k a b 0) (suc k) (drop 4 s)))
+        → EdgeView (N .nodes) next s → Lifted 10 (Unit {0}) Loopless (edgesWithTen (suc turns) N next s) (edgesUnmeasured (suc turns) N next s)
     go later (edge k a b rest step p h l f) =
         let fewer : length (drop 4 s) ≤ turns = simp length-drop (omega (arith, ap length p)) in
         lifted-by (ten-edge turns N next s step) (old-edge turns N next s step)
@@ -179,10 +180,10 @@ unfolding bare
 bare-loopless n s t k v loop = rw (has-zero k) at (loop .0)
 
 -- The reader.
-decode-ten : (most : ℕ) (s : List ℕ) → Lifted 10 Loopless (decodeWithTen most s) (decodeUnmeasured most s)
-decode-ten =
-    decode-lifted (λ N s. edgesWithTen (length s) N 0 s) (λ N s. edgesUnmeasured (length s) N 0 s) (λ n a b s.
-    walk-ten (length s) (bare n a b) 0 s (le-refl (length s)) (bare-stored n a b) (bare-unmeasured n a b) (bare-loopless n a b))
+decode-ten : (most : ℕ) (s : List ℕ) → Lifted 10 (Unit {0}) Loopless (decodeWithTen most s) (decodeUnmeasured most s)
+decode-ten most s =
+    decode-lifted (λ N s. edgesWithTen (length s) N 0 s) (λ N s. edgesUnmeasured (length s) N 0 s) most s (λ n a b.
+    walk-ten (length (drop 5 s)) (bare n a b) 0 (drop 5 s) (le-refl (length (drop 5 s))) (bare-stored n a b) (bare-unmeasured n a b) (bare-loopless n a b))
 
 -- Whatever the limit of points is.
 pub loops-kept : (most : ℕ) → LoopsKept most

@@ -2,8 +2,8 @@
 -- lifted.
 -- Assumes nothing.
 --
---   Lifted r P t d   the earlier answer t is the later one, d, and then a record that was accepted has P; or it was r, and then one that is
---                    accepted does not have P
+--   Lifted r W P t d     the earlier answer t is the later one, d, and then a record that was accepted has P; or it was r, because of W,
+--                    and then one that is accepted does not have P
 use mathlib.Core.List.{List, map, foldr}
 use mathlib.Core.Logic.{_↔_}
 use mathlib.Core.Path.{_≡_, refl, sym, ap, subst, _∙_}
@@ -35,58 +35,55 @@ test-today most N = refl
 
 -- ---- the reader
 
-pub data Lifted (r : ℕ) (P : Network → Type 0) (t d : Decoded) : Type 0 where
-  same : t ≡ d → (d .refusal ≡ 0 → P (d .network)) → Lifted r P t d
-  lifted : t .refusal ≡ r → (d .refusal ≡ 0 → P (d .network) → ⊥) → Lifted r P t d
+pub data Lifted (r : ℕ) (W : Type 0) (P : Network → Type 0) (t d : Decoded) : Type 0 where
+  same : t ≡ d → (d .refusal ≡ 0 → P (d .network)) → Lifted r W P t d
+  lifted : W → t .refusal ≡ r → (d .refusal ≡ 0 → P (d .network) → ⊥) → Lifted r W P t d
 
-module _ {r : ℕ} {P : Network → Type 0} where
+module _ {r : ℕ} {W : Type 0} {P : Network → Type 0} where
   -- Both answers by other names.
-  pub lifted-by : {t t′ d d′ : Decoded} → t ≡ t′ → d ≡ d′ → Lifted r P t′ d′ → Lifted r P t d
-  lifted-by {t} {t′} {d} {d′} e f w = subst (λ (x : Decoded). Lifted r P x d) (sym e) (subst (Lifted r P t′) (sym f) w)
+  pub lifted-by : {t t′ d d′ : Decoded} → t ≡ t′ → d ≡ d′ → Lifted r W P t′ d′ → Lifted r W P t d
+  lifted-by {t} {t′} {d} {d′} e f w = subst (λ (x : Decoded). Lifted r W P x d) (sym e) (subst (Lifted r W P t′) (sym f) w)
 
   -- A refusal by another rule is the same, and so is a record that has P.
-  pub refused-same : (k : ℕ) → 0 < k → Lifted r P (refuse k) (refuse k)
+  pub refused-same : (k : ℕ) → 0 < k → Lifted r W P (refuse k) (refuse k)
   refused-same k p = same refl (λ e. absurd (let bad : k ≡ 0 = e in omega arith))
 
-  pub accepted-same : (N : Network) → P N → Lifted r P (accept N) (accept N)
+  pub accepted-same : (N : Network) → P N → Lifted r W P (accept N) (accept N)
   accepted-same N p = same refl (λ e. p)
 
   -- A command before, whatever it answers, changes nothing in that.
-  taken-lifted : (t : Step) (f g : List ℕ → Decoded) → ((v : List ℕ) → Lifted r P (f v) (g v)) → Lifted r P (ifTaken t f) (ifTaken t g)
+  taken-lifted : (t : Step) (f g : List ℕ → Decoded) → ((v : List ℕ) → Lifted r W P (f v) (g v)) → Lifted r W P (ifTaken t f) (ifTaken t g)
   unfolding ifTaken
   taken-lifted t f g on = go (told t .number)
     where
-      go : (k : ℕ) → Lifted r P (unlessRefused k (f (told t .values)) (refuse k)) (unlessRefused k (g (told t .values)) (refuse k))
+      go : (k : ℕ) → Lifted r W P (unlessRefused k (f (told t .values)) (refuse k)) (unlessRefused k (g (told t .values)) (refuse k))
       go zero = on (told t .values)
       go (suc k) = refused-same (suc k) (omega arith)
 
-  -- So it is of the readers if it is of their walks.
-  pub decode-lifted : (walk walk′ : Network → List ℕ → Decoded) → ((n a b : ℕ) (s : List ℕ) → Lifted r P (walk (bare n a b) s) (walk′ (bare n a b) s))
-      → (most : ℕ) (s : List ℕ) → Lifted r P (decodeBy walk most s) (decodeBy walk′ most s)
+  -- So it is of the readers if it is of their walks after the first two commands.
+  pub decode-lifted : (walk walk′ : Network → List ℕ → Decoded) (most : ℕ) (s : List ℕ)
+      → ((n a b : ℕ) → Lifted r W P (walk (bare n a b) (drop 5 s)) (walk′ (bare n a b) (drop 5 s)))
+      → Lifted r W P (decodeBy walk most s) (decodeBy walk′ most s)
   unfolding decodeBy
-  decode-lifted walk walk′ each most s =
-      taken-lifted (sizeStep most s) _ _ (λ size. taken-lifted (terminalsStep (at size 0) (drop 2 s)) _ _ (λ v.
-      each (at size 0) (at v 0) (at v 1) (drop 5 s)))
+  decode-lifted walk walk′ most s each =
+      taken-lifted (sizeStep most s) _ _ (λ size. taken-lifted (terminalsStep (at size 0) (drop 2 s)) _ _ (λ v. each (at size 0) (at v 0) (at v 1)))
 
-  -- Any other answer is the later one, and what was accepted is what is accepted and has P.
-  pub lifted-plans : {t d : Decoded} → Lifted r P t d → (t .refusal ≡ r → ⊥) → d ≡ t
+  -- Any other answer is the later one, and so is every answer where W does not hold; what was accepted is what is accepted and has P.
+  pub lifted-plans : {t d : Decoded} → Lifted r W P t d → (t .refusal ≡ r → ⊥) → d ≡ t
   lifted-plans (same e q) n = sym e
-  lifted-plans (lifted e q) n = absurd (n e)
+  lifted-plans (lifted w e q) n = absurd (n e)
 
-  pub lifted-read : {t d : Decoded} → 0 < r → Lifted r P t d → (t .refusal ≡ 0) ↔ ((d .refusal ≡ 0) × P (d .network))
+  pub lifted-without : {t d : Decoded} → Lifted r W P t d → (W → ⊥) → d ≡ t
+  lifted-without (same e q) n = sym e
+  lifted-without (lifted w e q) n = absurd (n w)
+
+  pub lifted-read : {t d : Decoded} → 0 < r → Lifted r W P t d → (t .refusal ≡ 0) ↔ ((d .refusal ≡ 0) × P (d .network))
   lifted-read p (same e q) =
       let number = ap (λ (d : Decoded). d .refusal) e in
       (λ z. let ok = sym number ∙ z in (ok, q ok), λ k. number ∙ k .0)
-  lifted-read p (lifted e q) = (λ z. absurd (omega arith), λ k. absurd (q (k .0) (k .1)))
+  lifted-read p (lifted w e q) = (λ z. absurd (omega arith), λ k. absurd (q (k .0) (k .1)))
 
 -- Today's reader is one by its walk.
 pub decode-today : (most : ℕ) (s : List ℕ) → decodeUpTo most s ≡ decodeBy (λ N s. edges (length s) N 0 s) most s
 unfolding decodeBy decodeUpTo
 decode-today most s = refl
-
--- Readers by walks that give the same after the first two commands give the same.
-pub decode-same : (walk walk′ : Network → List ℕ → Decoded) (most : ℕ) (s : List ℕ) → ((N : Network) → walk N (drop 5 s) ≡ walk′ N (drop 5 s))
-    → decodeBy walk most s ≡ decodeBy walk′ most s
-unfolding decodeBy
-decode-same walk walk′ most s each =
-    λ i. ifTaken (sizeStep most s) (λ size. ifTaken (terminalsStep (at size 0) (drop 2 s)) (λ v. each (bare (at size 0) (at v 0) (at v 1)) i))
