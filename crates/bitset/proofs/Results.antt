@@ -2,7 +2,7 @@
 -- Assumes nothing.
 use mathlib.Core.Path.{_≡_, refl}
 use mathlib.Core.Bool.{Bool, true, false, not, _&&_, _||_, and-true, or-false, true≢false}
-use mathlib.Core.Logic.{_↔_}
+use mathlib.Core.Logic.{_⊎_, _↔_}
 use Prim.Native.Nat.{ℕ, _-_, _%_, _^_, _≤_, _<_}
 use native.Mathlib.Nat.{mod-eq-of-lt}
 use native.Mathlib.Omega.{arith}
@@ -10,9 +10,10 @@ use borrow.Author.Tests.{lt-ltb}
 use lib.Bits.{bitAnd, bitOr}
 use lib.Dec.{eqb, ltb, ltb→lt, lt→ltb}
 use Rattle.bitset.specs.Members.{has, _∈_, insert, _∖_}
-use Rattle.sequences.proofs.Tests.{T-and, T-eqb}
+use Rattle.sequences.proofs.Tests.{T-and, T-or, T-eqb}
 use Rattle.bitset.proofs.Members.{same-members, has-zero, has-power, has-ones, has-mod, has-and, has-or, has-minus, has-insert, eqb-cases}
 use Rattle.bitset.proofs.Subsets.{and-absorb}
+use Rattle.bitset.proofs.Sets.{in-drop}
 
 -- The empty set is 0.
 pub empty-zero : (t : ℕ) → ((j : ℕ) → has t j ≡ false) → t ≡ 0
@@ -39,6 +40,10 @@ module _ (w : ℕ) where
 pub without-minus : (s k t : ℕ) → ((j : ℕ) → has t j ≡ has s j && not (eqb j k)) → t ≡ s ∖ 2 ^ k
 without-minus s k t less = same-members t (s ∖ 2 ^ k) (λ j. rw (less j, has-minus s (2 ^ k) j, has-power k j))
 
+-- Its members are the other ones.
+pub in-without : (s k t : ℕ) → ((j : ℕ) → has t j ≡ has s j && not (eqb j k)) → (j : ℕ) → (j ∈ t) ↔ ((j ∈ s) × (j ≡ k → ⊥))
+in-without s k t less j = rw (without-minus s k t less) (in-drop s k j)
+
 -- The members that another set lacks.
 pub difference-minus : (s u t : ℕ) → ((j : ℕ) → has t j ≡ has s j && not (has u j)) → t ≡ s ∖ u
 difference-minus s u t less = same-members t (s ∖ u) (λ j. rw (less j, has-minus s u j))
@@ -50,6 +55,10 @@ intersection-and s u t both = same-members t (bitAnd s u) (λ j. rw (both j, has
 -- The members of either.
 pub union-or : (s u t : ℕ) → ((j : ℕ) → has t j ≡ has s j || has u j) → t ≡ bitOr s u
 union-or s u t either = same-members t (bitOr s u) (λ j. rw (either j, has-or s u j))
+
+-- Its members are those of either.
+pub in-union : (s u t : ℕ) → ((j : ℕ) → has t j ≡ has s j || has u j) → (j : ℕ) → (j ∈ t) ↔ ((j ∈ s) ⊎ (j ∈ u))
+in-union s u t either j = rw (either j) (T-or (has s j) (has u j))
 
 -- The set of a number alone, if that is below the width.
 pub in-alone : (w k t : ℕ) → ((j : ℕ) → has t j ≡ eqb j k && ltb k w) → (j : ℕ) → (j ∈ t) ↔ ((j ≡ k) × (k < w))

@@ -1,0 +1,2 @@
+-- The definitions that the contracts of `adjacency` cite.
+pub mod Adjacency

@@ -1,0 +1,95 @@
+-- `adjacent_to` meets its contract. The invariant: what is adjacent to the nodes before is gathered.
+-- The measure is the set of nodes left. Assumes nothing.
+use mathlib.Core.List.{List}
+use mathlib.Core.Logic.{inl, inr}
+use Prim.Native.Nat.{ℕ}
+use borrow.Author.Needs.{needs}
+use lib.ListN.{getD}
+use Rattle.bitset.specs.Members.{_∈_}
+use Rattle.bitset.proofs.Results.{in-union}
+use Rattle.bitset.proofs.Scans.{Less, less-lowest, less-lt, none-left, Gathered, gathered-first, gathered-next, gathered-last}
+use Rattle.node_set.specs.Width.{nodeWidth}
+use Rattle.spread.proofs.adjacent_to.Statement.{statement}
+use Rattle.spread.proofs.adjacent_to.Tie as tie
+
+-- With the node v come the nodes of its row.
+abbrev Row : List ℕ → ℕ → ℕ → Type 0
+Row adjacent v w = w ∈ getD adjacent v 0
+
+abbrev Inv-loop : tie.InvT-loop
+Inv-loop adjacent beside₀ left₀ beside left = Gathered (Row adjacent) (beside₀ .0) (left₀ .0) (left .0) (beside .0)
+
+abbrev μ-loop : tie.MeasureT-loop
+μ-loop adjacent beside₀ left₀ beside left = left .0
+
+empty-requires : tie.Need-empty-requires Inv-loop μ-loop
+empty-requires c κs = search needs
+
+loop-holds : tie.Need-loop-holds Inv-loop μ-loop
+loop-holds c = gathered-first _ _ _
+
+lowest-requires : tie.Need-lowest-requires Inv-loop μ-loop
+lowest-requires c κs = search needs
+
+returns : tie.Need-returns Inv-loop μ-loop
+returns c w =
+    let none = c .before .before .before .empty in
+    let a = c .before .before .before .before .args in
+    let l = c .before .before .loop in
+    let off = none-left nodeWidth (a .nodes .0) (l .left .0) _ (search needs) (l .inv .done .within) (c .before .lowest .ensures) (c .if1 .taken) in
+    let all = gathered-last (Row (a .adjacent .now)) (none .result .0) (a .nodes .0) (l .left .0) (l .beside .0) off (l .inv) w in (
+      λ m. elim (all .0 m) [ inl i ↦ absurd (rw (none .ensures w) at i) | inr p ↦ p ],
+      λ p. all .1 (inr p),
+    )
+
+cast-slot : tie.Need-cast-slot Inv-loop μ-loop
+cast-slot c = search needs
+
+mul-t8 : tie.Need-mul-t8 Inv-loop μ-loop
+mul-t8 c = search needs
+
+element-copy-out-t11 : tie.Need-element-copy-out-t11 Inv-loop μ-loop
+element-copy-out-t11 c = search needs
+
+union-requires : tie.Need-union-requires Inv-loop μ-loop
+union-requires c κs = search needs
+
+without-lowest-requires : tie.Need-without-lowest-requires Inv-loop μ-loop
+without-lowest-requires c κs = search needs
+
+-- The lowest node is found, seen from the end of its turn.
+abbrev found : tie.After-without-lowest Inv-loop μ-loop → tie.After-lowest Inv-loop μ-loop
+found c = c .before .before .before .before
+
+-- One node less is left.
+less : (c : tie.After-without-lowest Inv-loop μ-loop)
+    → Less (found c .before .loop .left .0) (found c .lowest .result) (c .without-lowest .result .0)
+less c =
+    let low = found c .lowest in
+    less-lowest nodeWidth _ (low .result) _ (low .ensures) (search needs) (c .without-lowest .ensures (low .result) (low .ensures))
+
+loop-less : tie.Need-loop-less Inv-loop μ-loop
+loop-less c = less-lt _ _ _ (less c)
+
+loop-again : tie.Need-loop-again Inv-loop μ-loop
+loop-again c =
+    let l = found c .before .loop in
+    gathered-next _ _ _ (l .left .0) _ _ (l .beside .0) _ (less c) (in-union (l .beside .0) _ _ (c .before .union .ensures)) (l .inv)
+
+pub adjacent-to-spec : {M : Type 1} → statement M
+adjacent-to-spec =
+    tie.close
+    (tie.spec
+    Inv-loop
+    μ-loop
+    empty-requires
+    loop-holds
+    lowest-requires
+    returns
+    cast-slot
+    mul-t8
+    element-copy-out-t11
+    union-requires
+    without-lowest-requires
+    loop-less
+    loop-again)

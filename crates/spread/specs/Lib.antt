@@ -1,0 +1,2 @@
+-- The definitions that the contracts of `spread` cite.
+pub mod Spread

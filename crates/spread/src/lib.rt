@@ -1,0 +1,47 @@
+// The spread (the paper's reach): from a start over sets of adjacent nodes, in rounds, until one adds no node. It knows no network and no edge.
+use node_set::NODE_WIDTH;
+use node_set::NodeSet;
+use node_set::NodeWord;
+ghost use mathlib.Core.Logic.{_↔_};
+ghost use Prim.Native.Nat.{ℕ};
+ghost use Rattle.bitset.specs.Members.{_∈_};
+ghost use Rattle.spread.specs.Spread.{AdjacentTo, Reached};
+
+// A table of nodes has a row for each node that there can be.
+pub const NODES: usize = NODE_WIDTH as usize;
+
+// The nodes that are adjacent to one of the set.
+fn adjacent_to(adjacent: &[NodeWord; NODES], nodes: NodeSet) -> NodeSet
+    ensures { λ r. ⌜ ((w : ℕ) → (w ∈ r .0) ↔ AdjacentTo (now (adjacent .entry)) (nodes .0) w) ⌝ }
+{
+    let mut beside = NodeSet::empty();
+    let mut left = nodes;
+    loop {
+        let v = left.lowest();
+        if NODE_WIDTH <= v {
+            return beside;
+        }
+        let slot = v as usize;
+        beside = beside.union(NodeSet(adjacent[slot]));
+        left = left.without_lowest();
+    }
+}
+
+// What the start reaches by going from nodes to adjacent nodes inside the set. A round goes on from the nodes that the last one added.
+pub fn reach(adjacent: &[NodeWord; NODES], within: NodeSet, start: NodeSet) -> NodeSet
+    ensures { λ r. ⌜ Reached (now (adjacent .entry)) (within .0) (start .0) (r .0) ⌝ }
+{
+    let mut spread = start;
+    let mut fresh = start;
+    let reached = loop {
+        let beside = adjacent_to(adjacent, fresh);
+        let inside = beside.intersection(within);
+        let next = spread.union(inside);
+        if next.equals(spread) {
+            break spread;
+        }
+        fresh = next.difference(spread);
+        spread = next;
+    };
+    reached
+}
