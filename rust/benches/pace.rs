@@ -1,16 +1,28 @@
 //! The list call beside the same method in ordinary Rust, and the library's useful part alone, which
-//! each of its lists begins with. All are measured in one run: medians over repeated calls, the rows
-//! cleared before each.
+//! each of its lists begins with; then the judging of a minimal cut. All are measured in one run:
+//! medians over repeated calls in turn, the rows cleared before each list.
 //!
 //! cargo bench --offline
+//!
+//! An earlier build of the library is measured in the same run if it is there as a shared object,
+//! by its whole path or as seen from this package:
+//!
+//! gcc -shared -o before.so -Wl,-Bsymbolic -Wl,--whole-archive libcapi.a -Wl,--no-whole-archive
+//! cargo bench --offline -- --before before.so
 
+use std::env;
+use std::ffi::{c_char, c_int, c_void, CString};
+use std::fs;
 use std::hint::black_box;
+use std::os::unix::ffi::OsStringExt;
+use std::process;
 use std::time::{Duration, Instant};
 
-use cutlist_tests::answers::Nodes;
+use cutlist_tests::answers::{Nodes, Verdict};
 use cutlist_tests::halls;
 use cutlist_tests::plans;
 use cutlist_tests::record::Record;
+use cutlist_tests::sys::capi::Build;
 use cutlist_tests::{ordinary, sides, sys};
 
 /// The most rows that are lent.
@@ -39,8 +51,8 @@ impl Lent {
     }
 }
 
-fn library(record: &Record, lent: &mut Lent) -> usize {
-    let (refusal, count) = sys::list_bare(record, &mut lent.cuts, &mut lent.sides);
+fn library(build: &Build, record: &Record, lent: &mut Lent) -> usize {
+    let (refusal, count) = sys::list_bare(build, record, &mut lent.cuts, &mut lent.sides);
     assert_eq!(refusal, 0, "{record:?}");
     count
 }
@@ -49,29 +61,68 @@ fn plain(record: &Record, lent: &mut Lent) -> usize {
     ordinary::list(record, &mut lent.cuts, &mut lent.sides).expect("rows that suffice")
 }
 
-/// Medians over so many calls of each, in turn.
-struct Medians {
-    library: Duration,
-    useful: Duration,
-    plain: Duration,
+/// The library, and behind it the earlier build if one is given.
+fn builds() -> Vec<Build> {
+    // cargo adds an argument of its own.
+    let given: Vec<String> = env::args().skip(1).filter(|arg| arg != "--bench").collect();
+    match given.iter().map(String::as_str).collect::<Vec<_>>()[..] {
+        [] => vec![Build::LINKED],
+        ["--before", file] => vec![Build::LINKED, loaded(file)],
+        _ => {
+            eprintln!("cargo bench --offline [-- --before LIB.so]");
+            process::exit(2);
+        }
+    }
 }
 
-fn medians(record: &Record, rows: usize, calls: usize) -> Medians {
+/// The build in this shared object.
+fn loaded(file: &str) -> Build {
+    unsafe extern "C" {
+        fn dlopen(path: *const c_char, mode: c_int) -> *mut c_void;
+        fn dlsym(object: *mut c_void, name: *const c_char) -> *mut c_void;
+    }
+    /// Its symbols bound at once, and nothing bound to them, on Linux.
+    const NOW: c_int = 2;
+    const LOCAL: c_int = 0;
+
+    let path = fs::canonicalize(file).unwrap_or_else(|e| panic!("{file}: {e}"));
+    let path = CString::new(path.into_os_string().into_vec()).expect("a path");
+    // SAFETY: the path ends with its only 0, and a build of the library does nothing on loading.
+    let object = unsafe { dlopen(path.as_ptr(), NOW | LOCAL) };
+    assert!(!object.is_null(), "{file} cannot be loaded");
+    let place_of = |name: &str| {
+        let name = CString::new(name).expect("a name");
+        // SAFETY: the object stays loaded, and the name ends with its only 0.
+        let place = unsafe { dlsym(object, name.as_ptr()) };
+        assert!(!place.is_null(), "{file} lacks {name:?}");
+        place.cast_const().cast()
+    };
+    // SAFETY: the object is a build of the library, and its calls are as the header declares them.
+    unsafe { Build::loaded(place_of) }
+}
+
+/// Medians over so many calls of each, in turn: of each build those of the list and of the useful
+/// part, and that of the list in ordinary Rust.
+fn medians(
+    builds: &[Build],
+    record: &Record,
+    rows: usize,
+    calls: usize,
+) -> (Vec<[Duration; 2]>, Duration) {
     let mut lent = Lent::rows(rows);
-    let mut times = [const { Vec::new() }; 3];
+    let mut times = vec![[const { Vec::new() }; 2]; builds.len()];
+    let mut plain_times = Vec::new();
     for _ in 0..calls {
+        for (build, [list, useful]) in builds.iter().zip(&mut times) {
+            lent.clear();
+            list.push(timed(|| library(build, record, &mut lent)).1);
+            useful.push(timed(|| sys::relevant_bare(build, record)).1);
+        }
         lent.clear();
-        times[0].push(timed(|| library(record, &mut lent)).1);
-        times[1].push(timed(|| sys::relevant_bare(record)).1);
-        lent.clear();
-        times[2].push(timed(|| plain(record, &mut lent)).1);
+        plain_times.push(timed(|| plain(record, &mut lent)).1);
     }
-    let [library, useful, plain] = times.map(median);
-    Medians {
-        library,
-        useful,
-        plain,
-    }
+    let medians = times.into_iter().map(|times| times.map(median)).collect();
+    (medians, median(plain_times))
 }
 
 fn median(mut times: Vec<Duration>) -> Duration {
@@ -115,49 +166,127 @@ fn processor_time() -> Duration {
     Duration::new(time.seconds as u64, time.nanoseconds as u32)
 }
 
-/// Both give the same rows; how many, and how long the slower took.
-fn check(record: &Record) -> (usize, Duration) {
+fn ratio(one: Duration, other: Duration) -> f64 {
+    one.as_nanos() as f64 / other.as_nanos() as f64
+}
+
+/// All give the same rows; how many, and how long the slowest took.
+fn check(builds: &[Build], record: &Record) -> (usize, Duration) {
     let mut expected = Lent::rows(MOST);
-    let (count, plain_time) = timed(|| plain(record, &mut expected));
-    let mut found = Lent::rows(count);
-    let (listed, time) = timed(|| library(record, &mut found));
-    assert!(
-        listed == count
-            && found.cuts == expected.cuts[..count]
-            && found.sides == expected.sides[..count],
-        "{record:?}"
-    );
-    (count, time.max(plain_time))
+    let (count, mut slowest) = timed(|| plain(record, &mut expected));
+    for build in builds {
+        let mut found = Lent::rows(count);
+        let (listed, time) = timed(|| library(build, record, &mut found));
+        assert!(
+            listed == count
+                && found.cuts == expected.cuts[..count]
+                && found.sides == expected.sides[..count],
+            "{record:?}"
+        );
+        slowest = slowest.max(time);
+    }
+    (count, slowest)
 }
 
 /// One line for the hall with exactly the rows that it needs lent, and one with so many that no
 /// plan with as many useful points can outnumber them, where that is a different number.
-fn measure(name: &str, record: &Record) {
-    let (count, slower) = check(record);
+fn measure(builds: &[Build], name: &str, record: &Record) {
+    let (count, slowest) = check(builds, record);
     let ample = 1usize << (sides::relevant(record).nodes.count_ones() - 2);
     let lent = match ample {
         ample if ample == count || ample > MOST => vec![count],
         ample => vec![count, ample],
     };
     for rows in lent {
-        let calls = (BUDGET.as_nanos() / (2 * slower.as_nanos()).max(1)) as usize;
+        let lists = slowest * (builds.len() as u32 + 1);
+        let calls = (BUDGET.as_nanos() / lists.as_nanos().max(1)) as usize;
         let calls = calls.clamp(CALLS.0, CALLS.1) | 1;
-        let medians = medians(record, rows, calls);
+        let (medians, plain) = medians(builds, record, rows, calls);
+        let [library, useful] = medians[0];
         let each = |time: Duration| time.as_nanos() as f64 / count as f64;
-        println!(
+        print!(
             "{name:<32} {:>6} {:>6} {count:>8} {rows:>8} {calls:>5} {:>9.1} {:>9.1} {:>9.1} {:>6.2}",
             record.nodes,
             record.present.count_ones(),
-            each(medians.library),
-            each(medians.useful),
-            each(medians.plain),
-            each(medians.library) / each(medians.plain),
+            each(library),
+            each(useful),
+            each(plain),
+            ratio(library, plain),
         );
+        if let Some(&[before, useful]) = medians.get(1) {
+            print!(
+                " {:>9.1} {:>9.1} {:>12.2}",
+                each(before),
+                each(useful),
+                ratio(library, before)
+            );
+        }
+        println!();
+    }
+}
+
+/// One line for the judging of the first minimal cut that the hall lists.
+fn measure_judging(builds: &[Build], name: &str, record: &Record) {
+    let mut lent = Lent::rows(MOST);
+    plain(record, &mut lent);
+    let cut = lent.cuts[0];
+    let mut times = vec![Vec::new(); builds.len()];
+    for _ in 0..CALLS.1 {
+        for (build, times) in builds.iter().zip(&mut times) {
+            let (answer, time) = timed(|| sys::classify_bare(build, record, cut));
+            assert_eq!(answer, (0, Verdict::Minimal as u8), "{record:?}");
+            times.push(time);
+        }
+    }
+    let medians: Vec<Duration> = times.into_iter().map(median).collect();
+    print!(
+        "{name:<32} {:>6} {:>6} {:>8} {:>9}",
+        record.nodes,
+        record.present.count_ones(),
+        cut.count_ones(),
+        medians[0].as_nanos()
+    );
+    if let [library, before] = medians[..] {
+        print!(" {:>9} {:>12.2}", before.as_nanos(), ratio(library, before));
+    }
+    println!();
+}
+
+/// The table for judging, of halls with long ways and short ones.
+fn judging(builds: &[Build]) {
+    let before = builds.len() > 1;
+    println!();
+    print!(
+        "{:<32} {:>6} {:>6} {:>8} {:>9}",
+        "judging a minimal cut", "points", "cables", "in it", "library"
+    );
+    if before {
+        print!(" {:>9} {:>12}", "before", "after/before");
+    }
+    print!("\n{:>65}", "ns/call");
+    if before {
+        print!(" {:>9}", "ns/call");
+    }
+    println!();
+    for (name, hall) in [
+        ("bridge", halls::bridge()),
+        ("line of 32, double", halls::line(32, 2)),
+        ("line of 64", halls::line(64, 1)),
+        ("line of 64, against", halls::turned(halls::line(64, 1))),
+        ("circle of 64", halls::circle(64, &[1])),
+        ("ladder of 2 by 16", halls::grid(2, 16)),
+        ("every pair of 11", halls::complete(11)),
+        ("grid of 4 by 8", halls::grid(4, 8)),
+    ] {
+        measure_judging(builds, name, &hall);
     }
 }
 
 fn main() {
-    println!(
+    let builds = builds();
+    let before = builds.len() > 1;
+    let measure = |name: &str, hall: &Record| measure(&builds, name, hall);
+    print!(
         "{:<32} {:>6} {:>6} {:>8} {:>8} {:>5} {:>9} {:>9} {:>9} {:>6}",
         "hall",
         "points",
@@ -170,7 +299,14 @@ fn main() {
         "ordinary",
         "ratio"
     );
-    println!("{:>80} {:>9} {:>9}", "ns/row", "ns/row", "ns/row");
+    if before {
+        print!(" {:>9} {:>9} {:>12}", "before", "useful", "after/before");
+    }
+    print!("\n{:>80} {:>9} {:>9}", "ns/row", "ns/row", "ns/row");
+    if before {
+        print!(" {:>16} {:>9}", "ns/row", "ns/row");
+    }
+    println!();
     measure("bridge", &halls::bridge());
     measure("line of 32, double", &halls::line(32, 2));
     measure("fan of 30", &halls::fan(30));
@@ -193,8 +329,10 @@ fn main() {
     measure("grid of 4 by 8", &halls::grid(4, 8));
     measure("two hubs with 20 between", &halls::two_hubs(20));
 
-    // The halls that use all 64 points; then some of the above spread over all of them.
+    // The halls that use all 64 points, the line also with numbers that fall from the server on; then
+    // some of the above spread over all of them.
     measure("line of 64", &halls::line(64, 1));
+    measure("line of 64, against", &halls::turned(halls::line(64, 1)));
     measure("circle of 64", &halls::circle(64, &[1]));
     for (name, hall) in [
         ("fan of 30", halls::fan(30)),
@@ -208,18 +346,22 @@ fn main() {
         measure(&format!("{name}, spread"), &halls::spread(&hall));
     }
 
-    let eleven = halls::complete(11);
-    let Medians {
-        library,
-        useful,
-        plain,
-    } = medians(&eleven, 512, 101);
+    let (medians, plain) = medians(&builds, &halls::complete(11), 512, 101);
+    let [library, useful] = medians[0];
     println!();
-    println!(
+    print!(
         "Eleven points, every pair joined, 512 rows, median of 101 calls of each: library {library:?}, \
          of that the useful part {useful:?}, ordinary {plain:?}, ratio {:.2}",
-        library.as_nanos() as f64 / plain.as_nanos() as f64
+        ratio(library, plain)
     );
+    if let Some(&[before, useful]) = medians.get(1) {
+        print!(
+            "; before {before:?}, of that {useful:?}, after/before {:.2}",
+            ratio(library, before)
+        );
+    }
+    println!();
+    judging(&builds);
 }
 
 /// Dense random plans of 64 cables, by points and seed.

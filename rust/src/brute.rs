@@ -81,6 +81,17 @@ pub fn verdict(minpaths: &[u64], set: u64) -> Verdict {
     }
 }
 
+/// The same by the minimal cuts: a cut is one of them, or holds one.
+pub fn verdict_by_cuts(mincuts: &[u64], set: u64) -> Verdict {
+    if mincuts.contains(&set) {
+        Verdict::Minimal
+    } else if mincuts.iter().any(|cut| cut & !set == 0) {
+        Verdict::NotMinimal
+    } else {
+        Verdict::NotCut
+    }
+}
+
 /// Every set of present cables, rising, with its verdict: all its proper subsets were looked at.
 pub fn verdicts(record: &Record) -> Vec<(u64, Verdict)> {
     let minpaths = minpaths(record);

@@ -3,8 +3,11 @@
 use std::fmt::LowerHex;
 
 use crate::answers::{Nodes, Part, Row, Verdict, Widths};
+use crate::lent;
+use crate::ordinary;
 use crate::record::{Record, SLOTS};
 use crate::reference::{self, Refusal, LONGEST_PLAN};
+use crate::rng::Rng;
 use crate::sys;
 
 /// Reads the plan; on refusal the record must be all zero. Gives the refusal number.
@@ -138,6 +141,29 @@ pub fn list(
     assert_rows("cut", &cuts, &expected_cuts, record);
     assert_rows("side", &sides, &expected_sides, record);
     number
+}
+
+/// Finds this useful part and this list of a record without fault, with the rows needed, with more,
+/// with one less and with different numbers of them; the ordinary lister finds the same.
+pub fn part_and_list(rng: &mut Rng, record: &Record, part: Part, rows: &[Row]) {
+    assert_eq!(relevant(record, part), 0);
+
+    let count = rows.len();
+    let many = count + 1 + rng.below(20);
+    for (cut_rows, side_rows, number) in [
+        (count, count, 0),
+        (many, many, 0),
+        (count - 1, count - 1, 12),
+        (count, many, 11),
+    ] {
+        let (cuts, sides) = lent::stale_rows(rng, cut_rows, side_rows);
+        assert_eq!(list(record, Some(rows), &cuts, &sides), number);
+    }
+    let (mut cuts, mut sides) = lent::stale_rows(rng, count, count);
+    assert_eq!(ordinary::list(record, &mut cuts, &mut sides), Ok(count));
+    let listed = cuts.into_iter().zip(sides);
+    let listed: Vec<Row> = listed.map(|(cut, side)| Row { cut, side }).collect();
+    assert_eq!(listed, rows, "{record:?}");
 }
 
 fn assert_rows<T: PartialEq + LowerHex>(kind: &str, rows: &[T], expected: &[T], record: &Record) {

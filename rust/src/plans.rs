@@ -149,6 +149,18 @@ pub fn renamed(rng: &mut Rng, record: &Record) -> Record {
     under_names(rng, record, record.nodes, &names)
 }
 
+/// The same plan under other numbers for its cables.
+pub fn renumbered(rng: &mut Rng, record: &Record) -> Record {
+    let mut slots: Vec<usize> = (0..SLOTS).collect();
+    rng.shuffle(&mut slots);
+    let bare = Record::bare(record.nodes, record.source, record.sink);
+    record.edges().fold(bare, |other, edge| {
+        other
+            .with(slots[edge], record.first[edge], record.second[edge])
+            .with_metres(slots[edge], record.metres[edge])
+    })
+}
+
 /// The same plan spread over as many points as there can be, of which the others hang on nothing;
 /// and the number that each of its points has there.
 pub fn spread(rng: &mut Rng, record: &Record) -> (Record, Vec<u8>) {

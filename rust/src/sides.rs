@@ -1,5 +1,6 @@
 //! A second lister, by near sides, for plans too large to take way by way.
 
+use std::array;
 use std::collections::HashSet;
 
 use crate::answers::{Nodes, Part, Row, Verdict};
@@ -30,6 +31,13 @@ pub fn relevant(record: &Record) -> Part {
             one != other && nodes >> one & nodes >> other & 1 == 1
         }),
     }
+}
+
+/// How many cables a shortest way from server to room has, if there is one.
+pub fn distance(record: &Record) -> Option<u32> {
+    let beside = neighbours(record, record.present);
+    let way = way(&beside, 1 << record.source, 1 << record.sink, 0)?;
+    Some(way.count_ones() - 1)
 }
 
 /// An ear: nodes on a way that leaves `nodes` at one of them and comes back at another.
@@ -138,13 +146,10 @@ pub fn list_by_growth(record: &Record, most: usize) -> Option<Vec<Row>> {
     Some(rows)
 }
 
-/// Judges a set of present cables: by what the server reaches without them, and without all but one
-/// of them.
+/// Judges a set of present cables: by whether server and room come together without them, and
+/// without all but one of them.
 pub fn verdict(record: &Record, set: u64) -> Verdict {
-    let is_cut = |set: u64| {
-        let beside = neighbours(record, record.present & !set);
-        reach(&beside, 1 << record.source, Nodes::MAX) >> record.sink & 1 == 0
-    };
+    let is_cut = |set: u64| !together(record, record.present & !set);
     if !is_cut(set) {
         Verdict::NotCut
     } else if members(set).any(|edge| is_cut(set & !(1 << edge))) {
@@ -152,6 +157,21 @@ pub fn verdict(record: &Record, set: u64) -> Verdict {
     } else {
         Verdict::Minimal
     }
+}
+
+/// Whether these cables bring server and room together: each point is a group of its own at first,
+/// and each cable in turn makes one group of the two at its ends.
+fn together(record: &Record, edges: u64) -> bool {
+    let mut group: [u8; MOST_NODES as usize] = array::from_fn(|node| node as u8);
+    let at = |node: u8| usize::from(node);
+    for edge in members(edges) {
+        let one = group[at(record.first[edge])];
+        let other = group[at(record.second[edge])];
+        for of in group.iter_mut().filter(|of| **of == one) {
+            *of = other;
+        }
+    }
+    group[at(record.source)] == group[at(record.sink)]
 }
 
 /// The one row of a plan without a route.
@@ -201,13 +221,19 @@ fn around(beside: &Beside, nodes: Nodes) -> Nodes {
     found
 }
 
-/// What `start` reaches inside `within`.
+/// What `start` reaches inside `within`, depth first.
 fn reach(beside: &Beside, start: Nodes, within: Nodes) -> Nodes {
+    fn go_on(beside: &Beside, node: usize, within: Nodes, reached: &mut Nodes) {
+        *reached |= 1 << node;
+        for next in members(beside[node] & within) {
+            if *reached >> next & 1 == 0 {
+                go_on(beside, next, within, reached);
+            }
+        }
+    }
     let mut reached = start;
-    let mut fresh = start;
-    while fresh != 0 {
-        fresh = around(beside, fresh) & within & !reached;
-        reached |= fresh;
+    for node in members(start) {
+        go_on(beside, node, within, &mut reached);
     }
     reached
 }

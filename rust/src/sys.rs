@@ -4,9 +4,12 @@
 use crate::answers::{Nodes, Part, Widths};
 use crate::lent::{Guarded, Rows};
 use crate::record::{Record, SLOTS};
+use capi::Build;
 
 /// The functions as include/cutlist.h declares them, with nothing around.
 pub mod capi {
+    use std::mem;
+
     use super::{Nodes, Record, SLOTS};
 
     unsafe extern "C" {
@@ -25,8 +28,24 @@ pub mod capi {
         pub fn cutlist_widths(cuts: *const u64, length: usize, table: *mut [u64; 65]);
     }
 
+    /// A call on a record: its fields, and what else the call takes.
+    macro_rules! call {
+        ($($type:ty),*) => {
+            unsafe extern "C" fn(
+                u8,
+                u8,
+                u8,
+                u64,
+                *const [u8; SLOTS],
+                *const [u8; SLOTS],
+                *const [u16; SLOTS],
+                $($type,)*
+            ) -> u8
+        };
+    }
+
     /// Declares the calls on a record, which begin with its fields, and makes of each one that
-    /// begins with the record's place.
+    /// begins with the record's place: of the build that is linked, and of any.
     macro_rules! on_a_record {
         ($(fn $name:ident($($more:ident: $type:ty),*);)*) => {
             pub mod on_fields {
@@ -48,22 +67,59 @@ pub mod capi {
                 }
             }
 
+            /// The calls on a record in one build of the library.
+            pub struct Build {
+                $($name: call!($($type),*),)*
+            }
+
+            impl Build {
+                /// The build that is linked.
+                pub const LINKED: Build = Build { $($name: on_fields::$name,)* };
+
+                /// Another build, which is loaded, by where its calls stand.
+                ///
+                /// # Safety
+                ///
+                /// At each place stands the call of that name.
+                pub unsafe fn loaded(place_of: impl Fn(&str) -> *const ()) -> Build {
+                    Build {
+                        $(
+                            $name: {
+                                let place = place_of(stringify!($name));
+                                assert_ne!(place, on_fields::$name as *const (), "linked, not loaded");
+                                mem::transmute::<*const (), call!($($type),*)>(place)
+                            },
+                        )*
+                    }
+                }
+
+                $(
+                    /// # Safety
+                    ///
+                    /// Each pointer is valid for its type and length, and no two overlap.
+                    #[inline]
+                    pub unsafe fn $name(&self, r: *const Record, $($more: $type),*) -> u8 {
+                        (self.$name)(
+                            (*r).nodes,
+                            (*r).source,
+                            (*r).sink,
+                            (*r).present,
+                            &raw const (*r).first,
+                            &raw const (*r).second,
+                            &raw const (*r).metres,
+                            $($more,)*
+                        )
+                    }
+                )*
+            }
+
             $(
                 /// # Safety
                 ///
                 /// Each pointer is valid for its type and length, and no two overlap.
                 #[inline]
                 pub unsafe fn $name(r: *const Record, $($more: $type),*) -> u8 {
-                    on_fields::$name(
-                        (*r).nodes,
-                        (*r).source,
-                        (*r).sink,
-                        (*r).present,
-                        &raw const (*r).first,
-                        &raw const (*r).second,
-                        &raw const (*r).metres,
-                        $($more,)*
-                    )
+                    Build::LINKED.$name(r, $($more),*)
                 }
             )*
         };
@@ -199,11 +255,11 @@ pub fn relevant(record: &Record) -> (u8, Part) {
     (refusal, part)
 }
 
-/// The same with nothing around the call: for measuring.
-pub fn relevant_bare(record: &Record) -> (u8, Part) {
+/// The same of any build, with nothing around the call: for measuring.
+pub fn relevant_bare(build: &Build, record: &Record) -> (u8, Part) {
     let mut part = Part::default();
     // SAFETY: each pointer is valid for its type, and no two overlap.
-    let refusal = unsafe { capi::cutlist_relevant(record, &mut part.nodes, &mut part.edges) };
+    let refusal = unsafe { build.cutlist_relevant(record, &mut part.nodes, &mut part.edges) };
     (refusal, part)
 }
 
@@ -217,6 +273,14 @@ pub fn classify(record: &Record, set: u64) -> (u8, u8) {
     });
 
     (refusal, verdict.take())
+}
+
+/// The same of any build, with nothing around the call: for measuring.
+pub fn classify_bare(build: &Build, record: &Record, set: u64) -> (u8, u8) {
+    let mut verdict = 0;
+    // SAFETY: each pointer is valid for its type, and no two overlap.
+    let refusal = unsafe { build.cutlist_classify(record, set, &mut verdict) };
+    (refusal, verdict)
 }
 
 /// Adds up the metres of a set of cables: the refusal number and the total.
@@ -254,13 +318,18 @@ pub fn list(record: &Record, cuts: &mut [u64], sides: &mut [Nodes]) -> (u8, usiz
     (refusal, count.take())
 }
 
-/// The same straight on the rows, with nothing around the call: for measuring.
-pub fn list_bare(record: &Record, cuts: &mut [u64], sides: &mut [Nodes]) -> (u8, usize) {
+/// The same of any build straight on the rows, with nothing around the call: for measuring.
+pub fn list_bare(
+    build: &Build,
+    record: &Record,
+    cuts: &mut [u64],
+    sides: &mut [Nodes],
+) -> (u8, usize) {
     let mut count = 0;
 
     // SAFETY: each pointer is valid for its type and length, and no two overlap.
     let refusal = unsafe {
-        capi::cutlist_list(
+        build.cutlist_list(
             record,
             cuts.as_mut_ptr(),
             cuts.len(),

@@ -19,7 +19,7 @@ use cutlist_tests::plans;
 use cutlist_tests::record::{Record, MOST_NODES};
 use cutlist_tests::reference::DECIDING;
 use cutlist_tests::rng::Rng;
-use cutlist_tests::{brute, reference, sys};
+use cutlist_tests::{brute, reference, sides, sys};
 
 fn cases(seed: u64, count: u64) -> impl Iterator<Item = (u64, Vec<u8>)> {
     (0..count).map(move |number| (number, making::bytes(seed, number)))
@@ -263,6 +263,8 @@ fn cases_of_every_kind_are_made() {
         let refusal = reference::number(&reference::decode(case.plan));
         let accepted = refusal == 0;
         let fit = reference::fault(record).is_ok();
+        let far = fit && sides::distance(record) >= Some(24);
+        let steps = |edge: usize| record.first[edge].abs_diff(record.second[edge]);
         for (kind, met) in [
             ("no bytes", case.plan.is_empty()),
             ("more bytes than decide", case.plan.len() > DECIDING),
@@ -280,6 +282,11 @@ fn cases_of_every_kind_are_made() {
                 matches!(case.plan, [0x50, 65..=70, ..]),
             ),
             ("all cables", fit && record.present == u64::MAX),
+            ("a room far from the server", far),
+            (
+                "the same with few cables between points next in number",
+                far && record.edges().filter(|&edge| steps(edge) == 1).count() < 10,
+            ),
             ("a loop", fit && record.loops() != 0),
             ("a measured cable", fit && record.measured() != 0),
             ("all cables measured", fit && record.measured() == u64::MAX),

@@ -56,14 +56,7 @@ fn the_other_halls() {
         (halls::line_of_three_exchanged(), &[1, 2]),
     ] {
         for set in 0..=hall.present {
-            let verdict = if cuts.contains(&set) {
-                Minimal
-            } else if cuts.iter().any(|cut| set & cut == *cut) {
-                NotMinimal
-            } else {
-                NotCut
-            };
-            assert_verdict(&hall, set, verdict);
+            assert_verdict(&hall, set, brute::verdict_by_cuts(cuts, set));
         }
     }
     // A useless cable beside a minimal cut, and alone.
@@ -193,13 +186,7 @@ fn larger_plans() {
             let cut = rng.pick(&cuts);
             let edge = 1 << rng.below(64) & record.present;
             for set in [cut, cut ^ edge, cut | edge, rng.draw() & record.present] {
-                let verdict = if cuts.contains(&set) {
-                    Minimal
-                } else if cuts.iter().any(|cut| cut & !set == 0) {
-                    NotMinimal
-                } else {
-                    NotCut
-                };
+                let verdict = brute::verdict_by_cuts(&cuts, set);
                 assert_eq!(sides::verdict(&record, set), verdict, "{record:?}");
                 assert_eq!(compare::classify(&record, set, verdict), 0);
                 verdicts.count(verdict);

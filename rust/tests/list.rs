@@ -516,15 +516,7 @@ fn halls_with_very_many_cuts_are_refused_soon() {
 #[test]
 fn a_long_list_comes_in_time() {
     let mut rng = Rng::new(59);
-    let mut cables: Vec<usize> = (0..64).collect();
-    rng.shuffle(&mut cables);
-    let hubs = |middle| {
-        let hubs = halls::two_hubs(middle);
-        let bare = Record::bare(hubs.nodes, hubs.source, hubs.sink);
-        hubs.edges().fold(bare, |hall, edge| {
-            hall.with(cables[edge], hubs.first[edge], hubs.second[edge])
-        })
-    };
+    let mut hubs = |middle| plans::renumbered(&mut rng, &halls::two_hubs(middle));
     for (middle, hall, seconds) in [
         (17, hubs(17), 0.5),
         (17, halls::spread(&hubs(17)), 0.5),

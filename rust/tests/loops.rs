@@ -4,12 +4,11 @@
 use cutlist_tests::answers::Verdict::{self, Minimal, NotCut, NotMinimal};
 use cutlist_tests::answers::{Nodes, Part, Row};
 use cutlist_tests::halls;
-use cutlist_tests::lent;
 use cutlist_tests::plans;
 use cutlist_tests::record::{Record, MOST_NODES, SLOTS};
 use cutlist_tests::rng::Rng;
 use cutlist_tests::tally::Verdicts;
-use cutlist_tests::{brute, compare, ordinary, sides, sys};
+use cutlist_tests::{brute, compare, sides, sys};
 
 /// The plan with 1 to 5 loops more.
 fn with_a_few(rng: &mut Rng, record: &Record) -> Record {
@@ -17,27 +16,9 @@ fn with_a_few(rng: &mut Rng, record: &Record) -> Record {
     plans::with_loops(rng, record, loops)
 }
 
-/// The library finds this useful part and this list, whatever rows are lent; so does the ordinary
-/// lister. The plan is written and read back unchanged.
+/// The plan has this useful part and this list, and is written and read back unchanged.
 fn assert_answers(rng: &mut Rng, plan: &Record, part: Part, rows: &[Row]) {
-    assert_eq!(compare::relevant(plan, part), 0);
-
-    let count = rows.len();
-    let many = count + 1 + rng.below(20);
-    for (cut_rows, side_rows, number) in [
-        (count, count, 0),
-        (many, many, 0),
-        (count - 1, count - 1, 12),
-        (count, many, 11),
-    ] {
-        let (cuts, sides) = lent::stale_rows(rng, cut_rows, side_rows);
-        assert_eq!(compare::list(plan, Some(rows), &cuts, &sides), number);
-    }
-    let (mut cuts, mut sides) = lent::stale_rows(rng, count, count);
-    assert_eq!(ordinary::list(plan, &mut cuts, &mut sides), Ok(count));
-    let listed = cuts.into_iter().zip(sides);
-    let listed: Vec<Row> = listed.map(|(cut, side)| Row { cut, side }).collect();
-    assert_eq!(listed, rows, "{plan:?}");
+    compare::part_and_list(rng, plan, part, rows);
 
     let bytes = plans::bytes(plan);
     assert_eq!(sys::decode(&bytes), (0, plan.clone()));

@@ -8,7 +8,11 @@ use crate::brute::members;
 use crate::plans;
 use crate::record::{Record, MOST_NODES};
 use crate::reference::{self, FAULTS, LONGEST_PLAN, READING};
+use crate::sides;
 use crate::tally::{Tally, Verdicts};
+
+/// A room is far if it is so many cables away from the server: a spread takes as many rounds to it.
+const FAR: u32 = 24;
 
 /// Questions by function and answer.
 #[derive(Clone, Debug, Default)]
@@ -30,6 +34,9 @@ pub struct Counts {
     /// Of the longer ones those with a useful point above 31, and the most useful points.
     pub high_points: u64,
     pub most_points: u32,
+    /// Halls with a far room, and the cables to the farthest.
+    pub far_rooms: u64,
+    pub farthest: u32,
     /// Halls with a loop, those with a loop at a useful point, and those to which one was added.
     pub looped: u64,
     pub useful_looped: u64,
@@ -56,6 +63,13 @@ impl Counts {
     pub fn faulty(&mut self, record: &Record) {
         let unmeasured = record.clone().unmeasured();
         self.absent_measured += u64::from(reference::fault(&unmeasured).is_ok());
+    }
+
+    /// Notes a record without fault.
+    pub fn accepted(&mut self, hall: &Record) {
+        let distance = sides::distance(hall).unwrap_or(0);
+        self.far_rooms += u64::from(distance >= FAR);
+        self.farthest = self.farthest.max(distance);
     }
 
     /// Notes a total.
@@ -85,7 +99,7 @@ impl Counts {
     }
 
     /// Every refusal of every function occurred and no other, every verdict, short and long lists,
-    /// loops and lengths.
+    /// long ways, loops and lengths.
     pub fn assert_wide(&self) {
         for (tally, of_the_plan, more) in [
             (&self.decode, READING, &[][..]),
@@ -107,6 +121,8 @@ impl Counts {
         assert!(self.most_rows >= 2_000, "{self}");
         assert!(self.high_points >= 4_000, "{self}");
         assert_eq!(self.most_points, MOST_NODES.into(), "{self}");
+        assert!(self.far_rooms >= 1_000, "{self}");
+        assert_eq!(self.farthest, u32::from(MOST_NODES) - 1, "{self}");
         assert!(self.looped >= 10_000, "{self}");
         assert!(self.useful_looped >= 8_000, "{self}");
         assert!(self.loops_added >= 20_000, "{self}");
@@ -145,6 +161,7 @@ impl fmt::Display for Counts {
             f,
             " none ({}); judged: {not} no cut, {more} not minimal, {minimal} minimal; halls listed: \
              {} with one row, {} with up to {}, {} of them with a useful point above 31; up to {} useful points; \
+             {} halls with the room {FAR} cables from the server or more, up to {}; \
              {} halls with a loop, {} of them with one at a useful point, {} with one added; \
              {} measured plans, plans of up to {} bytes, {} records with metres of absent cables alone; \
              {} totals above 65535, up to {}",
@@ -154,6 +171,8 @@ impl fmt::Display for Counts {
             self.most_rows,
             self.high_points,
             self.most_points,
+            self.far_rooms,
+            self.farthest,
             self.looped,
             self.useful_looped,
             self.loops_added,

@@ -36,8 +36,9 @@ fn on_the_record(case: &Case, counts: &mut Counts) {
     let mut rng = Rng::new(case.set);
     let fault = compare::fault(record);
     counts.fault.count(fault);
-    if fault != 0 {
-        counts.faulty(record);
+    match fault {
+        0 => counts.accepted(record),
+        _ => counts.faulty(record),
     }
     let known = match fault {
         0 => Known::of(record, case.rows),
