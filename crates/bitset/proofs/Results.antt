@@ -10,7 +10,7 @@ use borrow.Author.Tests.{lt-ltb}
 use lib.Bits.{bitAnd, bitOr}
 use lib.Dec.{eqb, ltb, ltb→lt, lt→ltb}
 use Rattle.bitset.specs.Members.{has, _∈_, insert, _∖_}
-use Rattle.sequences.proofs.Tests.{T-and, T-or, T-eqb}
+use Rattle.sequences.proofs.Tests.{T-or}
 use Rattle.bitset.proofs.Members.{same-members, has-zero, has-power, has-ones, has-mod, has-and, has-or, has-minus, has-insert, eqb-cases}
 use Rattle.bitset.proofs.Subsets.{and-absorb}
 use Rattle.bitset.proofs.Sets.{in-drop}
@@ -59,15 +59,6 @@ union-or s u t either = same-members t (bitOr s u) (λ j. rw (either j, has-or s
 -- Its members are those of either.
 pub in-union : (s u t : ℕ) → ((j : ℕ) → has t j ≡ has s j || has u j) → (j : ℕ) → (j ∈ t) ↔ ((j ∈ s) ⊎ (j ∈ u))
 in-union s u t either j = rw (either j) (T-or (has s j) (has u j))
-
--- The set of a number alone, if that is below the width.
-pub in-alone : (w k t : ℕ) → ((j : ℕ) → has t j ≡ eqb j k && ltb k w) → (j : ℕ) → (j ∈ t) ↔ ((j ≡ k) × (k < w))
-in-alone w k t alone j =
-    let both = T-and (eqb j k) (ltb k w) in
-    rw (alone j) (
-      λ m. let p = both .0 m in (T-eqb j k .0 (p .0), ltb→lt k w (p .1)),
-      λ p. both .1 (T-eqb j k .1 (p .0), lt→ltb k w (p .1)),
-    )
 
 -- A set below 2 ^ w has no member past w.
 has-within : (w s : ℕ) → s < 2 ^ w → (j : ℕ) → has s j ≡ ltb j w && has s j

@@ -1,6 +1,4 @@
 -- The laws that the proofs of the functions cite, and what the answers of the calls say.
-pub mod Fitting
-pub mod Rounds
 pub mod Nodes
 pub mod Answers
 pub mod Agree

@@ -1,17 +1,19 @@
--- The edges within a set of nodes, and the nodes past one node, as the code finds them.
+-- The edges within a set of nodes, what a spread inside all nodes reaches, and the nodes past one node, as the code finds them.
 -- Assumes nothing of a network but what is said.
 --
 --   Within N u e v   the edge e, as v, joins two different nodes of u
 use mathlib.Core.Path.{_≡_, refl, ap, _∙_}
 use mathlib.Core.Bool.{not, _&&_, _||_}
+use mathlib.Core.List.{List}
 use mathlib.Core.Logic.{_⊎_, inl, inr, _↔_}
 use Prim.Native.Nat.{ℕ, _-_, _%_, _^_, _<_}
 use native.Mathlib.Omega.{arith}
-use lib.Dec.{T, eqb, ltb}
+use lib.Dec.{T, eqb, ltb, lt→ltb}
 use Rattle.bitset.specs.Members.{has, _⊆_, insert, _∖_, _∈_}
 use Rattle.bitset.proofs.Subsets.{⊆-antisym}
 use Rattle.sequences.proofs.Tests.{T-and}
-use Rattle.bitset.proofs.Sets.{member-lt, in-mod}
+use Rattle.bitset.proofs.Members.{has-ones}
+use Rattle.bitset.proofs.Sets.{member-lt, in-mod, in-insert, in-single, in-drop}
 use Rattle.bitset.proofs.Results.{single-power, below-ones, with-member, without-minus}
 use Rattle.node_set.specs.Width.{nodeWidth}
 use Rattle.network.specs.declared.Network.{Network}
@@ -19,9 +21,12 @@ use Rattle.network.specs.Record.{hasEdge, firstEnd, secondEnd, present}
 use Rattle.graph.specs.Cuts.{only}
 use Rattle.graph.specs.Reach.{addIf, reachOf}
 use Rattle.graph.specs.Relevant.{twoIn, edgesWithin, past}
-use Rattle.graph.proofs.Reach.{in-addIf}
+use Rattle.graph.proofs.Reach.{in-addIf, bounded-only}
 use Rattle.graph.proofs.EdgeSets.{in-chosen, in-edgesWithin}
 use Rattle.graph.proofs.Sound.{Sound}
+use Rattle.spread.specs.Spread.{Reached}
+use Rattle.adjacency.specs.Adjacency.{Adjacency}
+use Rattle.adjacency.proofs.Reaching.{reached-over}
 
 -- ---- the edges within a set of nodes
 
@@ -57,24 +62,29 @@ module _ (N : Network) (u : ℕ) where
       ])
       (λ v m. let p = both v .0 (test v .0 m .1) in members v .1 (inr (v, (p .0, (p .1, refl)))))
 
+-- ---- spreads inside all nodes
+
+-- Over the table of the edges of h, inside all nodes, what is reached is what the start reaches over these edges.
+pub reached-all : (N : Network) → Sound N → (h : ℕ) → h ⊆ present N → (adjacent : List ℕ) → Adjacency (only N h) adjacent
+    → (all start r : ℕ) → ((j : ℕ) → has all j ≡ ltb j (N .nodes) && ltb j nodeWidth) → ((v : ℕ) → v ∈ start → v < N .nodes)
+    → Reached adjacent all start r → r ≡ reachOf (only N h) start
+unfolding only
+reached-all N S h l adjacent table all start r is-all nodes =
+    let holds : (v : ℕ) → v < N .nodes → v ∈ all =
+    λ v k. rw (below-ones nodeWidth (N .nodes) all (S .small) is-all, has-ones (N .nodes) v) (lt→ltb v (N .nodes) k) in
+    reached-over (only N h) (bounded-only N (S .bounded) h l) adjacent table all start r holds (λ v m. holds v (nodes v m))
+
 -- ---- past a node
 
-module _ (N : Network) (S : Sound N) (c : ℕ) (h : c < N .nodes) (all others edges source terminals start reached r : ℕ)
+module _ (N : Network) (S : Sound N) (c : ℕ) (h : c < N .nodes) (others : List ℕ) (all source terminals start reached r : ℕ)
+    (is-others : Adjacency (only N (edgesWithin N ((2 ^ N .nodes - 1) ∖ 2 ^ c))) others)
     (is-all : (j : ℕ) → has all j ≡ ltb j (N .nodes) && ltb j nodeWidth)
-    (is-others : (j : ℕ) → has others j ≡ has all j && not (eqb j c))
-    (is-edges : edges ≡ edgesWithin N others)
     (is-source : (j : ℕ) → has source j ≡ eqb j (N .source) && ltb (N .source) nodeWidth)
     (is-terminals : (j : ℕ) → has terminals j ≡ has source j || (eqb j (N .sink) && ltb (N .sink) nodeWidth))
     (is-start : (j : ℕ) → has start j ≡ has terminals j && not (eqb j c))
-    (is-reached : edges ⊆ present N → reached ≡ reachOf (only N edges) start)
+    (is-reached : Reached others all start reached)
     (is-r : (j : ℕ) → has r j ≡ has reached j || (eqb j c && ltb c nodeWidth)) where
-  -- The spread is over the edges within the other nodes than c.
-  past-edges : edges ≡ edgesWithin N ((2 ^ N .nodes - 1) ∖ 2 ^ c)
-  past-edges =
-      is-edges
-      ∙ ap (edgesWithin N) (without-minus all c others is-others ∙ ap (λ x. x ∖ 2 ^ c) (below-ones nodeWidth (N .nodes) all (S .small) is-all))
-
-  -- It starts at the terminals that are not c.
+  -- The spread starts at the terminals that are not c.
   past-start : start ≡ insert (2 ^ N .source) (N .sink) ∖ 2 ^ c
   past-start =
       without-minus terminals c start is-start
@@ -82,9 +92,19 @@ module _ (N : Network) (S : Sound N) (c : ℕ) (h : c < N .nodes) (all others ed
       (with-member nodeWidth source (N .sink) terminals (omega (arith, S .sink-lt, S .small)) is-terminals
       ∙ ap (λ x. insert x (N .sink)) (single-power nodeWidth (N .source) source (omega (arith, S .source-lt, S .small)) is-source))
 
-  -- With c it is the set of the nodes past c.
+  -- These are nodes.
+  start-nodes : (v : ℕ) → v ∈ start → v < N .nodes
+  start-nodes v m = go (in-insert (2 ^ N .source) (N .sink) v .0 (in-drop (insert (2 ^ N .source) (N .sink)) c v .0 (rw past-start at m) .0))
+    where
+      go : (v ∈ 2 ^ N .source) ⊎ (v ≡ N .sink) → v < N .nodes
+      go (inl i) = rw (in-single (N .source) v .0 i) (S .source-lt)
+      go (inr e) = rw e (S .sink-lt)
+
+  -- With c, what is reached is the set of the nodes past c.
   pub past-made : r ≡ past N c
   unfolding past
   past-made =
-      let fits = is-reached (rw is-edges (λ e m. in-edgesWithin N (S .bounded) others e .0 m .0)) in
-      with-member nodeWidth reached c r (omega (arith, S .small)) is-r ∙ ap (λ x. insert x c) (rw (← past-edges, ← past-start) fits)
+      let within = (2 ^ N .nodes - 1) ∖ 2 ^ c in
+      let fits = reached-all N S (edgesWithin N within) (λ e m. in-edgesWithin N (S .bounded) within e .0 m .0) others is-others
+      all start reached is-all start-nodes is-reached in
+      with-member nodeWidth reached c r (omega (arith, S .small)) is-r ∙ ap (λ x. insert x c) (rw (← past-start) fits)

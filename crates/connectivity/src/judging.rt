@@ -1,9 +1,10 @@
 // Judging a set of edges: one spread tells whether it is a cut, and one more for each member whether it is minimal.
 use crate::Verdict;
-use crate::spread::reach;
+use adjacency::adjacency;
 use edge_set::EdgeSet;
 use network::Network;
 use node_set::NodeSet;
+use spread::reach;
 ghost use mathlib.Core.Path.{_≡_};
 ghost use Rattle.network.specs.Record.{faultOf};
 ghost use Rattle.graph.specs.CutTests.{severed, allNeeded};
@@ -16,8 +17,10 @@ fn severed(network: Network, set: EdgeSet) -> bool
 {
     let present = network.present;
     let edges = present.difference(set);
+    let adjacent = adjacency(network, edges);
+    let all = NodeSet::below(network.nodes as u32);
     let start = NodeSet::single(network.source as u32);
-    let reached = reach(network, edges, start);
+    let reached = reach(&adjacent, all, start);
     !reached.contains(network.sink as u32)
 }
 

@@ -11,7 +11,6 @@ use node_set::NodeSet;
 
 mod judging;
 mod part;
-mod spread;
 
 pub use judging::classify;
 pub use judging::refusal_number;

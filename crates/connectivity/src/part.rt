@@ -1,14 +1,19 @@
 // The relevant part (the paper's useful part): the nodes that no other node cuts off from both terminals, and the edges between them.
 use crate::RelevantPart;
-use crate::spread::reach;
+use adjacency::adjacency;
+use adjacency::without_node;
 use edge_set::EdgeSet;
 use network::Network;
 use node_set::NodeSet;
+use node_set::NodeWord;
+use spread::NODES;
+use spread::reach;
 ghost use mathlib.Core.Path.{_≡_};
 ghost use Prim.Native.Nat.{_%_, _^_, _<_};
 ghost use Rattle.network.specs.Record.{faultOf};
 ghost use Rattle.graph.specs.Reach.{addIf};
 ghost use Rattle.graph.specs.Relevant.{twoIn, edgesWithin, past, relevantNodes};
+ghost use Rattle.adjacency.specs.Adjacency.{Adjacency};
 ghost use Rattle.connectivity.specs.Answers.{relevantOf, PartMeans};
 
 // Whether the two nodes are different members of the set.
@@ -50,18 +55,17 @@ fn edges_within(network: Network, nodes: NodeSet) -> EdgeSet
     }
 }
 
-// The node c, and what source and sink, whichever is not c, reach by walks over other nodes than c.
-fn past(network: Network, c: u8) -> NodeSet
-    requires { ⌜ (faultOf network ≡ 0) × (c < network .nodes) ⌝ }
+// The node c, and what source and sink, whichever is not c, reach by walks over other nodes than c: over the table without c.
+fn past(network: Network, adjacent: &[NodeWord; NODES], c: u8) -> NodeSet
+    requires { ⌜ (faultOf network ≡ 0) × (c < network .nodes) × Adjacency network (now adjacent) ⌝ }
     ensures { λ r. ⌜ r .0 ≡ past network c ⌝ }
 {
+    let others = without_node(adjacent, c);
     let all = NodeSet::below(network.nodes as u32);
-    let others = all.without(c as u32);
-    let edges = edges_within(network, others);
     let source = NodeSet::single(network.source as u32);
     let terminals = source.with(network.sink as u32);
     let start = terminals.without(c as u32);
-    let reached = reach(network, edges, start);
+    let reached = reach(&others, all, start);
     reached.with(c as u32)
 }
 
@@ -71,12 +75,13 @@ fn relevant_nodes(network: Network) -> NodeSet
     requires { ⌜ faultOf network ≡ 0 ⌝ }
     ensures { λ r. ⌜ r .0 ≡ relevantNodes network ⌝ }
 {
-    let mut nodes = past(network, network.source);
+    let adjacent = adjacency(network, network.present);
+    let mut nodes = past(network, &adjacent, network.source);
     let others = nodes.without(network.source as u32);
     let mut c: u8 = 0;
     while c < network.nodes {
         if others.contains(c as u32) {
-            nodes = nodes.intersection(past(network, c));
+            nodes = nodes.intersection(past(network, &adjacent, c));
         }
         c += 1;
     }

@@ -3,8 +3,9 @@
 use mathlib.Core.Path.{_≡_, refl, sym, ap, _∙_}
 use mathlib.Core.Bool.{Bool, true, false, not}
 use mathlib.Core.List.{List, [], _∷_}
-use mathlib.Core.Logic.{inl, inr}
+use mathlib.Core.Logic.{_⊎_, inl, inr}
 use Prim.Native.Nat.{ℕ, _^_, _≤_, _<_}
+use native.Mathlib.Decide.{ℕ-discrete}
 use native.Mathlib.Omega.{arith}
 use lib.Bits.{bitOr}
 use lib.ListN.{getD}
@@ -13,6 +14,7 @@ use Rattle.bitset.proofs.Subsets.{⊆-refl}
 use Rattle.bitset.proofs.Sets.{in-insert, in-single, in-drop, same-set, in-or, size-drop}
 use Rattle.node_set.specs.Width.{nodeWidth}
 use Rattle.network.specs.declared.Network.{Network}
+use Rattle.graph.specs.Paths.{Joins}
 use Rattle.graph.specs.Reach.{round, Bounded}
 use Rattle.graph.specs.Relevant.{reachIn, edgesAt}
 use Rattle.graph.proofs.Reach.{in-round}
@@ -21,7 +23,8 @@ use Rattle.branches.specs.declared.Branch.{Branch}
 use Rattle.branches.specs.Enumeration.{candidate, joined, leftOut, isOpen, Row, rowOf, rowsIf, joinRows, leaveOutRows}
 use Rattle.branches.proofs.ReachIn.{reachIn-start, reachIn-⊆, reachIn-same}
 use Rattle.branches.proofs.Recursion.{candidate-in, rows-leaf, rows-split}
-use Rattle.enumeration.specs.Tables.{Adjacency, Incidence}
+use Rattle.adjacency.specs.Adjacency.{Adjacency}
+use Rattle.enumeration.specs.Tables.{Incidence}
 use Rattle.enumeration.specs.Rows.{Fed, Whole, Capacity, Put}
 use Rattle.enumeration.proofs.Putting.{put-none, put-both}
 
@@ -29,13 +32,13 @@ use Rattle.enumeration.proofs.Putting.{put-none, put-both}
 
 module _ (M : Network) (B : Bounded M) where
   -- The node v and the nodes beside it are the round of v.
-  pub beside-round : (near : List ℕ) → Adjacency M near → (v : ℕ) → v < nodeWidth → (s : ℕ) → insert (bitOr s (getD near v 0)) v ≡ bitOr s (round M (2 ^ v))
-  beside-round near table v h s = same-set (λ k.
+  pub beside-round : (near : List ℕ) → Adjacency M near → (v s : ℕ) → insert (bitOr s (getD near v 0)) v ≡ bitOr s (round M (2 ^ v))
+  beside-round near table v s = same-set (λ k.
       let over = in-round M (B .edges) (2 ^ v) k in (
         λ m. in-or s (round M (2 ^ v)) k .1 (elim (in-insert (bitOr s (getD near v 0)) v k .0 m) [
           | inl i ↦ elim (in-or s (getD near v 0) k .0 i) [
             | inl l ↦ inl l
-            | inr l ↦ let j = table v k h .0 l in inr (over .1 (inr (j .0, (v, (in-single v v .1 refl, j .1)))))
+            | inr l ↦ let j = table v k .0 l in inr (over .1 (inr (j .1 .0, (v, (in-single v v .1 refl, j .1 .1)))))
           ]
           | inr e ↦ inr (over .1 (inl (in-single v k .1 e)))
         ]),
@@ -43,17 +46,22 @@ module _ (M : Network) (B : Bounded M) where
           | inl l ↦ inl (in-or s (getD near v 0) k .1 (inl l))
           | inr l ↦ elim (over .0 l) [
             | inl i ↦ inr (in-single v k .0 i)
-            | inr j ↦ inl (in-or s (getD near v 0) k .1 (inr (table v k h .1 (j .0, rw (in-single v (j .1 .0) .0 (j .1 .1 .0)) at (j .1 .1 .1)))))
+            | inr j ↦ beside k (j .0) (rw (in-single v (j .1 .0) .0 (j .1 .1 .0)) at (j .1 .1 .1)) (ℕ-discrete v k)
           ]
         ]),
       ))
+    where
+      -- What an edge joins to v is v or adjacent to v.
+      beside : (k e : ℕ) → Joins M e v k → Dec (v ≡ k) → (k ∈ bitOr s (getD near v 0)) ⊎ (k ≡ v)
+      beside k e j (yes q) = inr (sym q)
+      beside k e j (no n) = inl (in-or s (getD near v 0) k .1 (inr (table v k .1 (n, (e, j)))))
 
   -- The table has the edges at v.
-  pub at-edges : (at : List ℕ) → Incidence M at → (v : ℕ) → v < nodeWidth → getD at v 0 ≡ edgesAt M v
-  at-edges at table v h = same-set (λ e.
+  pub at-edges : (at : List ℕ) → Incidence M at → (v : ℕ) → getD at v 0 ≡ edgesAt M v
+  at-edges at table v = same-set (λ e.
       let both = in-edgesAt M B v e in (
-        λ m. both .1 (table v e h .0 m),
-        λ m. table v e h .1 (both .0 m),
+        λ m. both .1 (table v e .0 m),
+        λ m. table v e .1 (both .0 m),
       ))
 
   module _ (b : Branch) (v : ℕ) (free : v ∈ b .undecided .0) (fed : Fed M b) where

@@ -1,97 +1,60 @@
 // The enumeration of the source sides (the paper's near sides): a node beside the side joins it, or is left out for good.
+use adjacency::adjacency;
 use branches::Branch;
 use edge_set::EdgeSet;
 use network::Network;
 use node_set::NODE_WIDTH;
 use node_set::NodeSet;
 use node_set::NodeWord;
+use spread::NODES;
+use spread::reach;
 ghost use mathlib.Core.Path.{_≡_};
 ghost use mathlib.Core.List.{[], _∷_};
 ghost use Prim.Native.Nat.{_^_, _≤_, _<_};
-ghost use lib.ListN.{getD, set, replicate};
-ghost use Rattle.bitset.specs.Members.{insert, _∈_, _⊆_, _∖_};
+ghost use lib.ListN.{set};
+ghost use Rattle.bitset.specs.Members.{_∈_, _⊆_, _∖_};
 ghost use Rattle.node_set.specs.Width.{nodeWidth};
 ghost use Rattle.network.specs.Record.{faultOf, present};
 ghost use Rattle.graph.specs.Reach.{Bounded};
 ghost use Rattle.graph.specs.Cuts.{only};
 ghost use Rattle.graph.specs.Relevant.{reachIn, relevantNodes, relevantEdges};
 ghost use Rattle.branches.specs.Enumeration.{candidate, leftOut, isOpen, rowOf, rows, blank};
-ghost use Rattle.enumeration.specs.Tables.{Adjacency, Incidence};
+ghost use Rattle.adjacency.specs.Adjacency.{Adjacency, withMember};
+ghost use Rattle.enumeration.specs.Tables.{Incidence};
 ghost use Rattle.enumeration.specs.Rows.{Capacity, Put, JoinedBranch, JoinPut, LeaveOutPut};
 
-// ---- the tables
-
-// A table has a row for each node that there can be.
-const NODES: usize = NODE_WIDTH as usize;
-
-// The node b is beside the node a.
-fn add_adjacent(adjacent: &mut [NodeWord; NODES], a: u8, b: u8)
-    requires { ⌜ (a < nodeWidth) × (b < nodeWidth) ⌝ }
-    ensures { λ _. ⌜ now (adjacent .exit) ≡ set (now (adjacent .entry)) a (insert (getD (now (adjacent .entry)) a 0) b) ⌝ }
-{
-    let slot = a as usize;
-    let beside = NodeSet(adjacent[slot]).with(b as u32);
-    adjacent[slot] = beside.0;
-}
+// ---- the edges at each node
 
 // The edge e is at the node a.
 fn add_incident(incident: &mut [u64; NODES], a: u8, e: u32)
     requires { ⌜ (a < nodeWidth) × (e < 64) ⌝ }
-    ensures { λ _. ⌜ now (incident .exit) ≡ set (now (incident .entry)) a (insert (getD (now (incident .entry)) a 0) e) ⌝ }
+    ensures { λ _. ⌜ now (incident .exit) ≡ withMember (now (incident .entry)) a e ⌝ }
 {
     let slot = a as usize;
     let edges = EdgeSet(incident[slot]).with(e);
     incident[slot] = edges.0;
 }
 
-// For each node the nodes beside it and the edges at it, over the given edges, into two empty tables.
-fn fill_tables(
-    network: Network,
-    edges: EdgeSet,
-    adjacent: &mut [NodeWord; NODES],
-    incident: &mut [u64; NODES],
-)
-    requires { ⌜ (faultOf network ≡ 0) × (edges .0 ⊆ present network) × (now adjacent ≡ replicate nodeWidth 0) × (now incident ≡ replicate nodeWidth 0) ⌝ }
-    ensures { λ _. ⌜ Adjacency (only network (edges .0)) (now (adjacent .exit)) × Incidence (only network (edges .0)) (now (incident .exit)) ⌝ }
+// For each node the edges at it, of an accepted network with the edges of the set alone.
+fn incidence(network: Network, edges: EdgeSet) -> [u64; NODES]
+    requires { ⌜ (faultOf network ≡ 0) × (edges .0 ⊆ present network) ⌝ }
+    ensures { λ r. ⌜ Incidence (only network (edges .0)) r ⌝ }
 {
+    let mut incident = [0u64; NODES];
     let mut left = edges;
     loop {
         let k = left.lowest();
         if 64 <= k {
-            return;
+            return incident;
         }
-        let slot = k as usize;
-        add_adjacent(adjacent, network.first[slot], network.second[slot]);
-        add_adjacent(adjacent, network.second[slot], network.first[slot]);
-        add_incident(incident, network.first[slot], k);
-        add_incident(incident, network.second[slot], k);
+        let at = k as usize;
+        add_incident(&mut incident, network.first[at], k);
+        add_incident(&mut incident, network.second[at], k);
         left = left.without_lowest();
     }
 }
 
 // ---- the branches
-
-// What the start reaches by walks that stay inside the set: of the nodes found, each in turn finds those beside it.
-fn reach_in(adjacent: &[NodeWord; NODES], within: NodeSet, start: u32) -> NodeSet
-    ensures { λ r. ⌜ ((M : Network) → Bounded M → Adjacency M (now (adjacent .entry)) → start ∈ within .0 → r .0 ≡ reachIn M (within .0) start) ⌝ }
-{
-    let first = NodeSet::single(start);
-    let mut reached = first;
-    let mut fresh = first;
-    let all = loop {
-        let v = fresh.lowest();
-        if NODE_WIDTH <= v {
-            break reached;
-        }
-        let slot = v as usize;
-        let inside = NodeSet(adjacent[slot]).intersection(within);
-        let found = inside.difference(reached);
-        reached = reached.union(found);
-        let others = fresh.without_lowest();
-        fresh = others.union(found);
-    };
-    all
-}
 
 // What the sink reaches once v has joined: as before if it did not reach v.
 fn rest_without(adjacent: &[NodeWord; NODES], rest: NodeSet, v: u32, sink: u32) -> NodeSet
@@ -99,7 +62,7 @@ fn rest_without(adjacent: &[NodeWord; NODES], rest: NodeSet, v: u32, sink: u32) 
         → ((v ∈ rest .0 → ⊥) → reachIn M (rest .0) sink ≡ rest .0) → r .0 ≡ reachIn M (rest .0 ∖ 2 ^ v) sink) ⌝ }
 {
     if rest.contains(v) {
-        reach_in(adjacent, rest.without(v), sink)
+        reach(adjacent, rest.without(v), NodeSet::single(sink))
     } else {
         rest
     }
@@ -293,9 +256,8 @@ pub fn enumerate(
         × Capacity 0 limit (now cuts) (now sides) ⌝ }
     ensures { λ r. ⌜ Put (rows network) 0 limit (now (cuts .entry)) (now (sides .entry)) (now (cuts .exit)) (now (sides .exit)) r ⌝ }
 {
-    let mut adjacent: [NodeWord; NODES] = [0; NODES];
-    let mut incident = [0u64; NODES];
-    fill_tables(network, edges, &mut adjacent, &mut incident);
+    let adjacent = adjacency(network, edges);
+    let incident = incidence(network, edges);
     let source = network.source as u32;
     let sink = network.sink as u32;
     let first = blank(nodes, sink);

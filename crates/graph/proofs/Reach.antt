@@ -200,14 +200,6 @@ module _ (N : Network) (B : Bounded N) where
       let w = in-reach s v .0 m in
       closed-walk N t c (w .1 .1 .0) (w .0) v (w .1 .1 .1) (h (w .0) (w .1 .0))
 
-  -- A round adds reachable nodes alone to reachable nodes.
-  pub reach-round : (s t : ℕ) → t ⊆ reachOf N s → round N t ⊆ reachOf N s
-  reach-round s t h v m = rw (round-closed (reachOf N s) .1 (reach-closed s)) at (round-mono t (reachOf N s) h v m)
-
-  -- A set of reachable nodes that holds the start, and to which a round adds nothing, is the reachable set.
-  pub reach-unique : (s t : ℕ) → s ⊆ t → t ⊆ reachOf N s → round N t ≡ t → t ≡ reachOf N s
-  reach-unique s t h l fixed = ⊆-antisym t (reachOf N s) l (reach-least s t h (round-closed t .0 fixed))
-
   -- From one node, the reachable nodes are those that it is connected to.
   pub in-reach-single : (u v : ℕ) → (v ∈ reachOf N (2 ^ u)) ↔ Connected N u v
   in-reach-single u v = (

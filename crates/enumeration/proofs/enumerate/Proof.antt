@@ -3,6 +3,8 @@
 use mathlib.Core.Path.{refl}
 use native.Mathlib.Omega.{arith}
 use borrow.Author.Needs.{needs}
+use Rattle.bitset.specs.Members.{_⊆_}
+use Rattle.network.specs.Record.{present}
 use Rattle.graph.specs.Cuts.{only}
 use Rattle.graph.proofs.Sound.{Sound, accepted-sound}
 use Rattle.branches.specs.Enumeration.{relevantNetwork}
@@ -16,10 +18,15 @@ use Rattle.enumeration.proofs.enumerate.Tie as tie
 sound : (c : tie.Start) → Sound (c .args .network)
 sound c = accepted-sound (c .args .network) (search needs) (c .pre .0)
 
-fill-tables-requires : tie.Need-fill-tables-requires
-fill-tables-requires c κs =
-    let s = c .before .before .before .before in
-    (s .pre .0, rw (s .pre .2) (relevant-present (s .args .network) (sound s)), refl, refl)
+-- The relevant edges are present.
+within : (c : tie.Start) → (c .args .edges .0) ⊆ present (c .args .network)
+within c = rw (c .pre .2) (relevant-present (c .args .network) (sound c))
+
+adjacency-requires : tie.Need-adjacency-requires
+adjacency-requires c κs = let s = c .before .before in (s .pre .0, within s)
+
+incidence-requires : tie.Need-incidence-requires
+incidence-requires c κs = let s = c .before .before .before in (s .pre .0, within s)
 
 cast-source : tie.Need-cast-source
 cast-source c = search needs
@@ -33,8 +40,7 @@ blank-requires c κs = search needs
 join-requires : tie.Need-join-requires
 join-requires c κs =
     let b = c .before .before .before .before in
-    let f = b .before .before .before in
-    let s = f .before .before .before .before .before in
+    let s = b .before .before .before .before .before .before .before in
     let N = s .args .network in
     let S = sound s in
     let none = b .blank .ensures N (s .pre .1) refl in
@@ -51,17 +57,17 @@ unfolding only
 returns c =
     let j = c .before .before .before .before in
     let b = j .before .before .before .before .before in
-    let f = b .before .before .before in
-    let s = f .before .before .before .before .before in
+    let at = b .before .before .before in
+    let near = at .before in
+    let s = near .before .before .before in
     let N = s .args .network in
     let S = sound s in
     let first = b .blank .result in
     let none = b .blank .ensures N (s .pre .1) refl in
-    let filled = f .fill-tables in
-    let tables : Tables (relevantNetwork N) (filled .last .1 .1 .0) (filled .last .1 .1 .1 .0) = record {
+    let tables : Tables (relevantNetwork N) (near .adjacency .result) (at .incidence .result) = record {
       bounded = part-bounded N S;
-      nodes = rw (s .pre .2) at (filled .ensures .0);
-      edges = rw (s .pre .2) at (filled .ensures .1);
+      nodes = rw (s .pre .2) at (near .adjacency .ensures);
+      edges = rw (s .pre .2) at (at .incidence .ensures);
     } in
     let fed = blank-fed N S first none in
     put-all N S first none _ _ _ _ _ _ _
@@ -71,7 +77,8 @@ pub enumerate-spec : {M : Type 1} → statement M
 enumerate-spec =
     tie.close
     (tie.spec
-    fill-tables-requires
+    adjacency-requires
+    incidence-requires
     cast-source
     cast-sink
     blank-requires

@@ -59,8 +59,8 @@ returns c =
           ∙ ap (reachIn M (b .rest .0 ∖ 2 ^ v)) e in
           let around = with-member nodeWidth _ v _ h (c .before .before .with2 .ensures)
           ∙ ap (λ (x : ℕ). insert x v) (union-or (b .around .0) _ _ (u .union .ensures))
-          ∙ beside-round M (t .bounded) (a .adjacent .now) (t .nodes) v h (b .around .0) in
-          let cut = ap (bitXor (b .cut .0)) (at-edges M (t .bounded) (a .incident .now) (t .edges) v h) in
+          ∙ beside-round M (t .bounded) (a .adjacent .now) (t .nodes) v (b .around .0) in
+          let cut = ap (bitXor (b .cut .0)) (at-edges M (t .bounded) (a .incident .now) (t .edges) v) in
           λ i. record {
             side = record { 0 = side i };
             out = b .out;

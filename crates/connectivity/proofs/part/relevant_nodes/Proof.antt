@@ -8,14 +8,17 @@ use native.Mathlib.Omega.{arith}
 use borrow.Author.Needs.{needs}
 use lib.Bits.{bitAnd}
 use Rattle.bitset.specs.Members.{_∈_, _∖_}
-use Rattle.bitset.proofs.Subsets.{subset-and}
+use Rattle.bitset.proofs.Subsets.{⊆-refl, subset-and}
 use Rattle.bitset.proofs.Sets.{in-and, and-assoc}
 use Rattle.bitset.proofs.Results.{without-minus, intersection-and}
 use Rattle.node_set.specs.declared.NodeSet.{NodeSet}
 use Rattle.network.specs.declared.Network.{Network}
+use Rattle.network.specs.Record.{present}
+use Rattle.graph.specs.Cuts.{only}
 use Rattle.graph.specs.Relevant.{past, pastAll, relevantNodes}
 use Rattle.graph.proofs.Sound.{Sound, accepted-sound}
 use Rattle.graph.proofs.Relevant.{past-others, past-all-first, past-all-whole}
+use Rattle.adjacency.specs.Adjacency.{Adjacency}
 use Rattle.connectivity.proofs.part.relevant_nodes.Statement.{statement}
 use Rattle.connectivity.proofs.part.relevant_nodes.Tie as tie
 
@@ -39,17 +42,27 @@ record Turn (network : Network) (nodes c : ℕ) : Type 0 where
   before : nodes ≡ pastBefore network c
 
 abbrev Inv-loop : tie.InvT-loop
-Inv-loop network others nodes₀ c₀ nodes c = Turn network (nodes .0) c
+Inv-loop network adjacent nodes₀ others c₀ nodes c = Turn network (nodes .0) c
 
 abbrev μ-loop : tie.MeasureT-loop
-μ-loop network others nodes₀ c₀ nodes c = network .nodes - c
+μ-loop network adjacent nodes₀ others c₀ nodes c = network .nodes - c
 
 -- The network is sound.
 sound : (c : tie.Start Inv-loop μ-loop) → Sound (c .args .network)
 sound c = accepted-sound (c .args .network) (search needs) (c .pre)
 
+adjacency-requires : tie.Need-adjacency-requires Inv-loop μ-loop
+adjacency-requires c κs = (c .pre, ⊆-refl (present (c .args .network)))
+
+-- The table is that of the network.
+table : (c : tie.After-adjacency Inv-loop μ-loop) → Adjacency (c .before .args .network) (c .adjacency .result)
+unfolding only
+table c = c .adjacency .ensures
+
 past-requires : tie.Need-past-requires Inv-loop μ-loop
-past-requires c κs = (c .pre, sound c .source-lt)
+past-requires c κs =
+    let start = c .before .before in
+    (start .pre, sound start .source-lt, table (c .before))
 
 cast-without : tie.Need-cast-without Inv-loop μ-loop
 cast-without c = search needs
@@ -60,7 +73,7 @@ without-requires c κs = search needs
 loop-holds : tie.Need-loop-holds Inv-loop μ-loop
 loop-holds c =
     let found = c .before .before in
-    let start = found .before in
+    let start = found .before .before .before in
     record { within = omega arith; before = found .past .ensures ∙ past-all-first (start .args .network) (sound start) }
 
 cast-contains : tie.Need-cast-contains Inv-loop μ-loop
@@ -70,7 +83,10 @@ contains-requires : tie.Need-contains-requires Inv-loop μ-loop
 contains-requires c κs = search needs
 
 past-requires-2 : tie.Need-past-requires-2 Inv-loop μ-loop
-past-requires-2 c κs = search needs
+past-requires-2 c κs =
+    let turn = c .before .before .before in
+    let made = turn .before .before .before .before .before .before .before in
+    (made .before .pre, turn .if1 .taken, table made)
 
 intersection-requires : tie.Need-intersection-requires Inv-loop μ-loop
 intersection-requires c κs = search needs
@@ -87,13 +103,13 @@ loop-again c =
     let turn = tried .before .before .before in
     let apart = turn .before in
     let found = apart .before .before in
-    let start = found .before in
+    let start = found .before .before .before in
     let N = start .args .network in
     let l = turn .loop in
     let other = without-minus _ (N .source) _ (apart .without .ensures) ∙ ap (λ x. x ∖ 2 ^ N .source) (found .past .ensures) in
     let next : c .if2 .nodes .0 ≡ bitAnd (l .nodes .0) (past N (l .c)) =
     elim (c .if2 .came) [
-      | inl k ↦ ap (λ (x : NodeSet). x .0) (k .3) ∙ intersection-and _ _ _ (k .2 .ensures) ∙ ap (bitAnd (l .nodes .0)) (k .1 .ensures)
+      | inl k ↦ ap (λ (x : NodeSet). x .0) (k .4) ∙ intersection-and _ _ _ (k .3 .ensures) ∙ ap (bitAnd (l .nodes .0)) (k .2 .ensures)
       | inr k ↦
           ap (λ (x : NodeSet). x .0) (k .1)
           ∙ sym (past-kept N (sound start) (l .c) (l .nodes .0) (l .inv .before) (λ m. rw (← other, ← tried .contains .ensures, k .0 .left) at m))
@@ -108,7 +124,7 @@ unfolding relevantNodes
 returns c =
     let turn = c .before .before in
     let l = turn .loop in
-    let start = turn .before .before .before .before in
+    let start = turn .before .before .before .before .before .before in
     let N = start .args .network in
     let all : l .c ≡ N .nodes = omega arith in
     l .inv .before ∙ ap (pastBefore N) all ∙ past-all-whole N (sound start)
@@ -119,6 +135,7 @@ relevant-nodes-spec =
     (tie.spec
     Inv-loop
     μ-loop
+    adjacency-requires
     past-requires
     cast-without
     without-requires
