@@ -8,7 +8,7 @@ use mathlib.Core.Path.{_≡_, refl}
 use mathlib.Core.Bool.{false, not, _&&_}
 use mathlib.Core.Logic.{_⊎_, inl, inr, _↔_}
 use Prim.Native.Nat.{ℕ, _^_, _≤_, _<_}
-use native.Mathlib.Decide.{ℕ-discrete}
+use native.Mathlib.Decide.{ℕ-discrete, decLt}
 use native.Mathlib.Omega.{arith}
 use denote.Floats.{is-true, passes}
 use lib.Dec.{eqb}
@@ -16,7 +16,7 @@ use Rattle.bitset.specs.Members.{has, _∈_, _⊆_, insert, _∖_, Lowes
 use Rattle.bitset.proofs.Subsets.{⊆-refl, subset-lt, same-test}
 use Rattle.sequences.proofs.Tests.{T-and, T-not, T-eqb}
 use Rattle.bitset.proofs.Members.{has-zero}
-use Rattle.bitset.proofs.Sets.{same-set, in-insert, in-minus, member-lt}
+use Rattle.bitset.proofs.Sets.{same-set, in-insert, in-minus, member-lt, empty-or-member}
 
 -- The set t is s without its member k.
 pub record Less (s k t : ℕ) : Type 0 where
@@ -43,6 +43,15 @@ less-lt s k t l =
 pub none-left : (w all s k : ℕ) → all < 2 ^ w → s ⊆ all → Lowest w s k → w ≤ k → (j : ℕ) → j ∈ s → ⊥
 none-left w all s k small within low h j m =
     rw (low .none-below j (let l = member-lt w all j small (within j m) in omega arith)) at m
+
+-- The lowest member of a set of such members is below the width, if there is one.
+pub lowest-lt : (w s k : ℕ) → s < 2 ^ w → (s ≡ 0 → ⊥) → Lowest w s k → k < w
+lowest-lt w s k small some low = go (empty-or-member s) (decLt k w)
+  where
+    go : (s ≡ 0) ⊎ ((j : ℕ) × (j ∈ s)) → Dec (k < w) → k < w
+    go (inl e) d = absurd (some e)
+    go (inr m) (yes h) = h
+    go (inr m) (no n) = absurd (none-left w s s k small (⊆-refl s) low (omega arith) (m .0) (m .1))
 
 -- ---- what holds of each member
 

@@ -102,6 +102,13 @@ impl NodeSet {
         NodeSet(self.0 & !other.0)
     }
 
+    // Whether there are no members.
+    pub fn is_empty(self) -> bool
+        ensures { λ r. ⌜ r ≡ eqb (self .0) 0 ⌝ }
+    {
+        self.0 == 0
+    }
+
     // Whether the two sets are the same.
     pub fn equals(self, other: NodeSet) -> bool
         ensures { λ r. ⌜ r ≡ eqb (self .0) (other .0) ⌝ }

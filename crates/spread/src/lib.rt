@@ -17,17 +17,16 @@ fn adjacent_to(adjacent: &[NodeWord; NODES], nodes: NodeSet) -> NodeSet
     let mut beside = NodeSet::empty();
     let mut left = nodes;
     loop {
-        let v = left.lowest();
-        if NODE_WIDTH <= v {
+        if left.is_empty() {
             return beside;
         }
-        let slot = v as usize;
+        let slot = left.lowest() as usize;
         beside = beside.union(NodeSet(adjacent[slot]));
         left = left.without_lowest();
     }
 }
 
-// What the start reaches by going from nodes to adjacent nodes inside the set. A round goes on from the nodes that the last one added.
+// What the start reaches by going from nodes to adjacent nodes inside the set. A round goes on from the nodes that the last one found.
 pub fn reach(adjacent: &[NodeWord; NODES], within: NodeSet, start: NodeSet) -> NodeSet
     ensures { λ r. ⌜ Reached (now (adjacent .entry)) (within .0) (start .0) (r .0) ⌝ }
 {
@@ -36,12 +35,12 @@ pub fn reach(adjacent: &[NodeWord; NODES], within: NodeSet, start: NodeSet) -> N
     let reached = loop {
         let beside = adjacent_to(adjacent, fresh);
         let inside = beside.intersection(within);
-        let next = spread.union(inside);
-        if next.equals(spread) {
+        let found = inside.difference(spread);
+        if found.is_empty() {
             break spread;
         }
-        fresh = next.difference(spread);
-        spread = next;
+        spread = spread.union(found);
+        fresh = found;
     };
     reached
 }

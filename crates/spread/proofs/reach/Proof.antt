@@ -1,5 +1,5 @@
 -- `reach` meets its contract. The invariant: the spread has to be reached, and beyond what is fresh nothing is missing.
--- The measure is how far the set is from the largest word: a round that adds a node makes it a larger number. Assumes nothing.
+-- The measure is how far the set is from the largest word: a round that finds a node makes it a larger number. Assumes nothing.
 use mathlib.Core.Path.{sym, _∙_}
 use mathlib.Core.List.{List}
 use Prim.Native.Nat.{ℕ, _-_, _^_, _<_}
@@ -7,7 +7,7 @@ use native.Mathlib.Omega.{arith}
 use borrow.Author.Needs.{needs}
 use borrow.Author.Tests.{eqb-true, eqb-false}
 use Rattle.node_set.specs.Width.{nodeWidth}
-use Rattle.spread.proofs.Rounds.{Spread, Round, round-of, spread-first, spread-next, round-larger, spread-last}
+use Rattle.spread.proofs.Rounds.{Spread, Finds, finds, spread-first, spread-next, spread-larger, spread-last}
 use Rattle.spread.proofs.reach.Statement.{statement}
 use Rattle.spread.proofs.reach.Tie as tie
 
@@ -31,52 +31,53 @@ adjacent-to-requires c κs = search needs
 intersection-requires : tie.Need-intersection-requires Inv-loop μ-loop
 intersection-requires c κs = search needs
 
-union-requires : tie.Need-union-requires Inv-loop μ-loop
-union-requires c κs = search needs
-
-equals-requires : tie.Need-equals-requires Inv-loop μ-loop
-equals-requires c κs = search needs
-
 difference-requires : tie.Need-difference-requires Inv-loop μ-loop
 difference-requires c κs = search needs
 
+is-empty-requires : tie.Need-is-empty-requires Inv-loop μ-loop
+is-empty-requires c κs = search needs
+
+union-requires : tie.Need-union-requires Inv-loop μ-loop
+union-requires c κs = search needs
+
 -- The round goes on from the fresh nodes.
-round : (c : tie.After-union Inv-loop μ-loop)
+new : (c : tie.After-difference Inv-loop μ-loop)
     → let l = c .before .before .before .loop in
     let a = c .before .before .before .before .args in
-    Round (a .adjacent .now) (a .within .0) (l .spread .0) (l .fresh .0) (c .union .result .0)
-round c =
+    Finds (a .adjacent .now) (a .within .0) (l .spread .0) (l .fresh .0) (c .difference .result .0)
+new c =
+    let a = c .before .before .before .before .args in
     let beside = c .before .before .adjacent-to in
     let inside = c .before .intersection in
-    let a = c .before .before .before .before .args in
-    round-of (a .adjacent .now) _ _ _ (beside .result .0) (inside .result .0) _ (beside .ensures) (inside .ensures) (c .union .ensures)
+    finds (a .adjacent .now) _ _ _ (beside .result .0) (inside .result .0) _ (beside .ensures) (inside .ensures) (c .difference .ensures)
 
 loop-less : tie.Need-loop-less Inv-loop μ-loop
 loop-less c =
-    let e = c .before .before in
-    let l = e .before .before .before .before .loop in
-    let next = e .before .union .result .0 in
+    let tested = c .before .before in
+    let round = tested .before in
+    let l = round .before .before .before .loop in
+    let next = c .union .result .0 in
     let larger : l .spread .0 < next =
-    round-larger _ _ _ (l .spread .0) (l .fresh .0) next (l .inv .inside) (round (e .before))
-    (eqb-false _ _ (sym (e .equals .ensures) ∙ c .before .if1 .left)) in
+    spread-larger _ _ _ (l .spread .0) (l .fresh .0) (round .difference .result .0) (l .inv .inside) (new round) next (c .union .ensures)
+    (eqb-false _ _ (sym (tested .is-empty .ensures) ∙ c .before .if1 .left)) in
     let small : next < 2 ^ nodeWidth = search needs in
     omega (arith, larger, small)
 
 loop-again : tie.Need-loop-again Inv-loop μ-loop
 loop-again c =
-    let u = c .before .before .before in
-    let l = u .before .before .before .loop in
+    let round = c .before .before .before in
+    let l = round .before .before .before .loop in
     record {
       word = search needs;
-      inside = spread-next _ _ _ (l .spread .0) (l .fresh .0) (u .union .result .0) (l .inv .inside) (round u) _ (c .difference .ensures);
+      inside = spread-next _ _ _ (l .spread .0) (l .fresh .0) (round .difference .result .0) (l .inv .inside) (new round) _ (c .union .ensures);
     }
 
 returns : tie.Need-returns Inv-loop μ-loop
 returns c =
-    let u = c .before .before in
-    let l = u .before .before .before .loop in
-    spread-last _ _ _ (l .spread .0) (l .fresh .0) (u .union .result .0) (l .inv .inside) (round u)
-    (eqb-true _ _ (sym (c .before .equals .ensures) ∙ c .if1 .taken))
+    let round = c .before .before in
+    let l = round .before .before .before .loop in
+    spread-last _ _ _ (l .spread .0) (l .fresh .0) (round .difference .result .0) (l .inv .inside) (new round)
+    (eqb-true _ _ (sym (c .before .is-empty .ensures) ∙ c .if1 .taken))
 
 pub reach-spec : {M : Type 1} → statement M
 reach-spec =
@@ -87,9 +88,9 @@ reach-spec =
     loop-holds
     adjacent-to-requires
     intersection-requires
-    union-requires
-    equals-requires
     difference-requires
+    is-empty-requires
+    union-requires
     loop-less
     loop-again
     returns)
