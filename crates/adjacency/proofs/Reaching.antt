@@ -1,17 +1,21 @@
 -- What a spread over the table of a network reaches: what is reached over the edges of the network.
 -- Assumes that the edges have numbers below 64 and ends below the node count.
 use mathlib.Core.Path.{_≡_, sym, _∙_}
+use mathlib.Core.Bool.{_&&_}
 use mathlib.Core.List.{List}
 use mathlib.Core.Logic.{_⊎_, inl, inr, _↔_, _≢_}
 use Prim.Native.Nat.{ℕ, _-_, _^_, _<_}
 use native.Mathlib.Decide.{ℕ-discrete}
-use lib.Dec.{lt→ltb}
+use lib.Dec.{ltb, lt→ltb}
 use lib.ListN.{getD}
-use Rattle.bitset.specs.Members.{_⊆_, _∖_, _∈_}
+use Rattle.bitset.specs.Members.{has, _⊆_, _∖_, _∈_}
 use Rattle.bitset.proofs.Members.{has-ones}
 use Rattle.bitset.proofs.Subsets.{⊆-antisym}
 use Rattle.bitset.proofs.Sets.{in-single, in-drop}
+use Rattle.bitset.proofs.Results.{below-ones}
+use Rattle.node_set.specs.Width.{nodeWidth}
 use Rattle.network.specs.declared.Network.{Network}
+use Rattle.network.specs.Record.{present}
 use Rattle.graph.specs.Paths.{Joins}
 use Rattle.graph.specs.Cuts.{only}
 use Rattle.graph.specs.Reach.{reachOf, Bounded}
@@ -19,6 +23,7 @@ use Rattle.graph.specs.Relevant.{edgesWithin, reachIn}
 use Rattle.graph.proofs.Walks.{joins-sym, joins-other, joins-ends}
 use Rattle.graph.proofs.Reach.{reach-start, reach-closed, reach-least, bounded-only}
 use Rattle.graph.proofs.EdgeSets.{in-edgesWithin}
+use Rattle.graph.proofs.Sound.{Sound}
 use Rattle.spread.specs.Spread.{Reached}
 use Rattle.adjacency.specs.Adjacency.{Adjacency, Mutual}
 
@@ -49,12 +54,17 @@ reached-same N B adjacent within start r reached from ends steps =
         let p = steps u v (ends e v u (joins-sym N e u v j)) .1 (n, (e, j)) in
         reached .kept v (u, (m, p .0)) (p .1)
 
--- Over the table of a network, inside a set that holds all its nodes, what is reached is what the start reaches.
-pub reached-over : (N : Network) → Bounded N → (adjacent : List ℕ) → Adjacency N adjacent → (all start r : ℕ)
-    → ((v : ℕ) → v < N .nodes → v ∈ all) → start ⊆ all → Reached adjacent all start r → r ≡ reachOf N start
-reached-over N B adjacent table all start r holds from reached =
-    let ends : (e v w : ℕ) → Joins N e v w → w ∈ all = λ e v w j. holds w (B .ends e v w j) in
-    reached-same N B adjacent all start r reached from ends
+-- Over the table of the edges of h, inside all nodes of a sound network, what is reached is what the start reaches over these edges.
+pub reached-all : (N : Network) → Sound N → (h : ℕ) → h ⊆ present N → (adjacent : List ℕ) → Adjacency (only N h) adjacent
+    → (all start r : ℕ) → ((j : ℕ) → has all j ≡ ltb j (N .nodes) && ltb j nodeWidth) → ((v : ℕ) → v ∈ start → v < N .nodes)
+    → Reached adjacent all start r → r ≡ reachOf (only N h) start
+unfolding only
+reached-all N S h l adjacent table all start r is-all nodes reached =
+    let B = bounded-only N (S .bounded) h l in
+    let holds : (v : ℕ) → v < N .nodes → v ∈ all =
+    λ v k. rw (below-ones nodeWidth (N .nodes) all (S .small) is-all, has-ones (N .nodes) v) (lt→ltb v (N .nodes) k) in
+    let ends : (e v w : ℕ) → Joins (only N h) e v w → w ∈ all = λ e v w j. holds w (B .ends e v w j) in
+    reached-same (only N h) B adjacent all start r reached (λ v m. holds v (nodes v m)) ends
     (λ v w m. (λ p. table v w .0 (p .0), λ j. (table v w .1 j, ends (j .1 .0) v w (j .1 .1))))
 
 -- ---- inside a set of nodes

@@ -1,4 +1,4 @@
--- The edges within a set of nodes, what a spread inside all nodes reaches, and the nodes past one node, as the code finds them.
+-- The edges within a set of nodes, and the nodes past one node, as the code finds them.
 -- Assumes nothing of a network but what is said.
 --
 --   Within N u e v   the edge e, as v, joins two different nodes of u
@@ -8,25 +8,24 @@ use mathlib.Core.List.{List}
 use mathlib.Core.Logic.{_⊎_, inl, inr, _↔_}
 use Prim.Native.Nat.{ℕ, _-_, _%_, _^_, _<_}
 use native.Mathlib.Omega.{arith}
-use lib.Dec.{T, eqb, ltb, lt→ltb}
+use lib.Dec.{T, eqb, ltb}
 use Rattle.bitset.specs.Members.{has, _⊆_, insert, _∖_, _∈_}
 use Rattle.bitset.proofs.Subsets.{⊆-antisym}
 use Rattle.sequences.proofs.Tests.{T-and}
-use Rattle.bitset.proofs.Members.{has-ones}
 use Rattle.bitset.proofs.Sets.{member-lt, in-mod, in-insert, in-single, in-drop}
-use Rattle.bitset.proofs.Results.{single-power, below-ones, with-member, without-minus}
+use Rattle.bitset.proofs.Results.{single-power, with-member, without-minus}
 use Rattle.node_set.specs.Width.{nodeWidth}
 use Rattle.network.specs.declared.Network.{Network}
 use Rattle.network.specs.Record.{hasEdge, firstEnd, secondEnd, present}
 use Rattle.graph.specs.Cuts.{only}
 use Rattle.graph.specs.Reach.{addIf, reachOf}
 use Rattle.graph.specs.Relevant.{twoIn, edgesWithin, past}
-use Rattle.graph.proofs.Reach.{in-addIf, bounded-only}
+use Rattle.graph.proofs.Reach.{in-addIf}
 use Rattle.graph.proofs.EdgeSets.{in-chosen, in-edgesWithin}
 use Rattle.graph.proofs.Sound.{Sound}
 use Rattle.spread.specs.Spread.{Reached}
 use Rattle.adjacency.specs.Adjacency.{Adjacency}
-use Rattle.adjacency.proofs.Reaching.{reached-over}
+use Rattle.adjacency.proofs.Reaching.{reached-all}
 
 -- ---- the edges within a set of nodes
 
@@ -61,18 +60,6 @@ module _ (N : Network) (u : ℕ) where
         | inr j ↦ rw (j .1 .1 .1) (test (j .0) .1 (member-lt 64 (present N) (j .0) small (j .1 .0), both (j .0) .1 (j .1 .0, j .1 .1 .0)))
       ])
       (λ v m. let p = both v .0 (test v .0 m .1) in members v .1 (inr (v, (p .0, (p .1, refl)))))
-
--- ---- spreads inside all nodes
-
--- Over the table of the edges of h, inside all nodes, what is reached is what the start reaches over these edges.
-pub reached-all : (N : Network) → Sound N → (h : ℕ) → h ⊆ present N → (adjacent : List ℕ) → Adjacency (only N h) adjacent
-    → (all start r : ℕ) → ((j : ℕ) → has all j ≡ ltb j (N .nodes) && ltb j nodeWidth) → ((v : ℕ) → v ∈ start → v < N .nodes)
-    → Reached adjacent all start r → r ≡ reachOf (only N h) start
-unfolding only
-reached-all N S h l adjacent table all start r is-all nodes =
-    let holds : (v : ℕ) → v < N .nodes → v ∈ all =
-    λ v k. rw (below-ones nodeWidth (N .nodes) all (S .small) is-all, has-ones (N .nodes) v) (lt→ltb v (N .nodes) k) in
-    reached-over (only N h) (bounded-only N (S .bounded) h l) adjacent table all start r holds (λ v m. holds v (nodes v m))
 
 -- ---- past a node
 

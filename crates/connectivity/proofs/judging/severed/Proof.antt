@@ -11,7 +11,7 @@ use Rattle.graph.specs.Cuts.{without}
 use Rattle.graph.specs.CutTests.{severed}
 use Rattle.graph.proofs.Sound.{Sound, accepted-sound}
 use Rattle.adjacency.specs.Adjacency.{Adjacency}
-use Rattle.connectivity.proofs.Nodes.{reached-all}
+use Rattle.adjacency.proofs.Reaching.{reached-all}
 use borrow.Author.Needs.{needs}
 use Rattle.connectivity.proofs.judging.severed.Statement.{statement}
 use Rattle.connectivity.proofs.judging.severed.Tie as tie
