@@ -108,6 +108,7 @@ fn medians(
     record: &Record,
     rows: usize,
     calls: usize,
+    timer: Timer,
 ) -> (Vec<[Duration; 2]>, Duration) {
     let mut lent = Lent::rows(rows);
     let mut times = vec![[const { Vec::new() }; 2]; builds.len()];
@@ -115,11 +116,11 @@ fn medians(
     for _ in 0..calls {
         for (build, [list, useful]) in builds.iter().zip(&mut times) {
             lent.clear();
-            list.push(timed(|| library(build, record, &mut lent)).1);
-            useful.push(timed(|| sys::relevant_bare(build, record)).1);
+            list.push(timer.time(|| library(build, record, &mut lent)).1);
+            useful.push(timer.time(|| sys::relevant_bare(build, record)).1);
         }
         lent.clear();
-        plain_times.push(timed(|| plain(record, &mut lent)).1);
+        plain_times.push(timer.time(|| plain(record, &mut lent)).1);
     }
     let medians = times.into_iter().map(|times| times.map(median)).collect();
     (medians, median(plain_times))
@@ -130,16 +131,37 @@ fn median(mut times: Vec<Duration>) -> Duration {
     times[times.len() / 2]
 }
 
-/// What the call gives, and its time: by the clock, or from a millisecond on by the time that this
-/// thread had the processor, so that other work on the machine does not count.
-fn timed<R>(call: impl FnOnce() -> R) -> (R, Duration) {
-    let before = processor_time();
-    let start = Instant::now();
-    let result = black_box(call());
-    let time = start.elapsed();
-    match time < Duration::from_millis(1) {
-        true => (result, time),
-        false => (result, processor_time() - before),
+/// What tells the time of a call. All calls on a hall have the same.
+#[derive(Clone, Copy)]
+enum Timer {
+    Clock,
+    /// The time that this thread had the processor, so that other work on the machine does not count.
+    Processor,
+}
+
+impl Timer {
+    /// For calls of which the slowest takes so long.
+    fn of(slowest: Duration) -> Timer {
+        match slowest < Duration::from_millis(1) {
+            true => Timer::Clock,
+            false => Timer::Processor,
+        }
+    }
+
+    /// What the call gives, and its time.
+    fn time<R>(self, call: impl FnOnce() -> R) -> (R, Duration) {
+        match self {
+            Timer::Clock => {
+                let start = Instant::now();
+                let result = black_box(call());
+                (result, start.elapsed())
+            }
+            Timer::Processor => {
+                let before = processor_time();
+                let result = black_box(call());
+                (result, processor_time() - before)
+            }
+        }
     }
 }
 
@@ -173,10 +195,10 @@ fn ratio(one: Duration, other: Duration) -> f64 {
 /// All give the same rows; how many, and how long the slowest took.
 fn check(builds: &[Build], record: &Record) -> (usize, Duration) {
     let mut expected = Lent::rows(MOST);
-    let (count, mut slowest) = timed(|| plain(record, &mut expected));
+    let (count, mut slowest) = Timer::Clock.time(|| plain(record, &mut expected));
     for build in builds {
         let mut found = Lent::rows(count);
-        let (listed, time) = timed(|| library(build, record, &mut found));
+        let (listed, time) = Timer::Clock.time(|| library(build, record, &mut found));
         assert!(
             listed == count
                 && found.cuts == expected.cuts[..count]
@@ -201,7 +223,7 @@ fn measure(builds: &[Build], name: &str, record: &Record) {
         let lists = slowest * (builds.len() as u32 + 1);
         let calls = (BUDGET.as_nanos() / lists.as_nanos().max(1)) as usize;
         let calls = calls.clamp(CALLS.0, CALLS.1) | 1;
-        let (medians, plain) = medians(builds, record, rows, calls);
+        let (medians, plain) = medians(builds, record, rows, calls, Timer::of(slowest));
         let [library, useful] = medians[0];
         let each = |time: Duration| time.as_nanos() as f64 / count as f64;
         print!(
@@ -233,7 +255,7 @@ fn measure_judging(builds: &[Build], name: &str, record: &Record) {
     let mut times = vec![Vec::new(); builds.len()];
     for _ in 0..CALLS.1 {
         for (build, times) in builds.iter().zip(&mut times) {
-            let (answer, time) = timed(|| sys::classify_bare(build, record, cut));
+            let (answer, time) = Timer::Clock.time(|| sys::classify_bare(build, record, cut));
             assert_eq!(answer, (0, Verdict::Minimal as u8), "{record:?}");
             times.push(time);
         }
@@ -346,7 +368,7 @@ fn main() {
         measure(&format!("{name}, spread"), &halls::spread(&hall));
     }
 
-    let (medians, plain) = medians(&builds, &halls::complete(11), 512, 101);
+    let (medians, plain) = medians(&builds, &halls::complete(11), 512, 101, Timer::Clock);
     let [library, useful] = medians[0];
     println!();
     print!(

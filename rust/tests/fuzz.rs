@@ -8,7 +8,7 @@ use std::path::Path;
 use std::process::Command;
 
 use cutlist_tests::fuzz::case::{self, Case, Size, FIELDS, FITTED, HEAD, RAW};
-use cutlist_tests::fuzz::counts::Counts;
+use cutlist_tests::fuzz::counts::{Counts, FAR};
 use cutlist_tests::fuzz::digest::digest;
 use cutlist_tests::fuzz::search::{panic_of, search};
 use cutlist_tests::fuzz::shrinking::shrink;
@@ -263,7 +263,7 @@ fn cases_of_every_kind_are_made() {
         let refusal = reference::number(&reference::decode(case.plan));
         let accepted = refusal == 0;
         let fit = reference::fault(record).is_ok();
-        let far = fit && sides::distance(record) >= Some(24);
+        let far = fit && sides::distance(record) >= Some(FAR);
         let steps = |edge: usize| record.first[edge].abs_diff(record.second[edge]);
         for (kind, met) in [
             ("no bytes", case.plan.is_empty()),

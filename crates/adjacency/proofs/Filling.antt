@@ -1,5 +1,7 @@
 -- A table as it is filled, edge by edge: it is right for the network with the edges that are gone through.
 -- Assumes that the ends of the edge have a place in the table.
+--
+--   Filled Right N all t left    the table t has a row for each node, and it is right for the edges of `all` but those that are left
 use mathlib.Core.Path.{_≡_, refl, sym, ap, _∙_}
 use mathlib.Core.List.{List}
 use mathlib.Core.Logic.{_⊎_, inl, inr, _↔_}
@@ -9,9 +11,11 @@ use native.Mathlib.Omega.{arith}
 use borrow.Author.Tests.{eq-eqb, ne-eqb}
 use lib.ListN.{length, getD, length-set, replicate}
 use lib.Seq.{getD-set-same, getD-set-other}
-use Rattle.bitset.specs.Members.{insert, _∈_}
+use Rattle.bitset.specs.Members.{insert, _∈_, _⊆_, _∖_}
 use Rattle.bitset.proofs.Members.{has-zero}
+use Rattle.bitset.proofs.Subsets.{⊆-refl}
 use Rattle.bitset.proofs.Sets.{in-insert}
+use Rattle.bitset.proofs.Scans.{Less, gone-first, gone-next, gone-last}
 use Rattle.node_set.specs.Width.{nodeWidth}
 use Rattle.network.specs.declared.Network.{Network}
 use Rattle.network.specs.Record.{firstEnd, secondEnd, present}
@@ -82,6 +86,32 @@ linked-length t a b = go (ℕ-discrete a b)
     go : Dec (a ≡ b) → length (linked t a b) ≡ length t
     go (yes e) = ap length (linked-one t a b e)
     go (no n) = ap length (linked-two t a b n) ∙ with-both-length t a b b a
+
+-- ---- tables that are filled
+
+-- The table t has a row for each node, and it is right for the edges of `all` but those that are left.
+pub record Filled (Right : Network → List ℕ → Type 0) (N : Network) (all : ℕ) (t : List ℕ) (left : ℕ) : Type 0 where
+  pub within : left ⊆ all
+  pub rows : length t ≡ nodeWidth
+  pub right : Right (only N (all ∖ left)) t
+
+module _ (Right : Network → List ℕ → Type 0) (N : Network) (all : ℕ) where
+  -- At first all are left.
+  pub filled-first : Right (only N 0) (replicate nodeWidth 0) → Filled Right N all (replicate nodeWidth 0) all
+  filled-first none = record { within = ⊆-refl all; rows = refl; right = rw (gone-first all) none }
+
+  -- Where the table is made right with the edge k too, one less is left.
+  pub filled-next : (k left left′ : ℕ) (t t′ made : List ℕ) → Less left k left′ → Filled Right N all t left
+      → t′ ≡ made → length made ≡ length t → Right (only N (insert (all ∖ left) k)) made → Filled Right N all t′ left′
+  filled-next k left left′ t t′ made less filled puts same right = record {
+    within = λ j m. filled .within j (less .rest j .0 m .0);
+    rows = ap length puts ∙ same ∙ filled .rows;
+    right = rw (gone-next all left k left′ (filled .within) less, puts) right;
+  }
+
+  -- Where none is left, it is right for all.
+  pub filled-last : (left : ℕ) (t : List ℕ) → ((j : ℕ) → j ∈ left → ⊥) → Filled Right N all t left → Right (only N all) t
+  filled-last left t none filled = rw (gone-last all left none) at (filled .right)
 
 -- ---- edges
 

@@ -52,7 +52,7 @@ reached-same N B adjacent within start r reached from ends steps =
     over e u v j m (yes q) = rw q at m
     over e u v j m (no n) =
         let p = steps u v (ends e v u (joins-sym N e u v j)) .1 (n, (e, j)) in
-        reached .kept v (u, (m, p .0)) (p .1)
+        reached .closed v (u, (m, p .0)) (p .1)
 
 -- Over the table of the edges of h, inside all nodes of a sound network, what is reached is what the start reaches over these edges.
 pub reached-all : (N : Network) → Sound N → (h : ℕ) → h ⊆ present N → (adjacent : List ℕ) → Adjacency (only N h) adjacent
@@ -71,7 +71,7 @@ reached-all N S h l adjacent table all start r is-all nodes reached =
 
 module _ (N : Network) (B : Bounded N) (u : ℕ) where
   -- The edges within u keep the bounds.
-  pub bounded-within : Bounded (only N (edgesWithin N u))
+  bounded-within : Bounded (only N (edgesWithin N u))
   bounded-within = bounded-only N B (edgesWithin N u) (λ e m. in-edgesWithin N B u e .0 m .0)
 
   -- They join two different nodes of u.

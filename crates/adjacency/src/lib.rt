@@ -2,9 +2,9 @@
 use edge_set::EdgeSet;
 use network::Network;
 use node_set::NODE_WIDTH;
+use node_set::NODES;
 use node_set::NodeSet;
 use node_set::NodeWord;
-use spread::NODES;
 ghost use mathlib.Core.Logic.{_↔_};
 ghost use mathlib.Core.Path.{_≡_};
 ghost use Prim.Native.Nat.{ℕ, _<_};

@@ -17,7 +17,7 @@ use Rattle.bitset.specs.Members.{has, _⊆_, _∈_}
 use Rattle.bitset.proofs.Subsets.{⊆-refl, subset-lt, same-test}
 use Rattle.bitset.proofs.Sets.{∈-dec, in-minus, empty-or-member, not-zero}
 use Rattle.bitset.proofs.Results.{difference-minus, in-union}
-use Rattle.spread.specs.Spread.{AdjacentTo, Kept, Reached}
+use Rattle.spread.specs.Spread.{AdjacentTo, ClosedInside, Reached}
 
 -- The nodes of the spread are none but those that must be; of those that are not fresh, all that are adjacent to them inside the set are
 -- in the spread too.
@@ -25,7 +25,7 @@ pub record Spread (adjacent : List ℕ) (within start spread fresh : ℕ) : Type
   pub started : start ⊆ spread
   pub part : fresh ⊆ spread
   pub done : (v w : ℕ) → v ∈ spread → (v ∈ fresh → ⊥) → w ∈ getD adjacent v 0 → w ∈ within → w ∈ spread
-  pub least : (s : ℕ) → start ⊆ s → Kept adjacent within s → spread ⊆ s
+  pub least : (s : ℕ) → start ⊆ s → ClosedInside adjacent within s → spread ⊆ s
 
 -- What a round finds: the nodes inside the set that are adjacent to a fresh node and not yet in the spread.
 abbrev pub Finds : List ℕ → ℕ → ℕ → ℕ → ℕ → Type 0
@@ -52,7 +52,7 @@ module _ (adjacent : List ℕ) (within start : ℕ) where
     started = ⊆-refl start;
     part = ⊆-refl start;
     done = λ v w m n. absurd (n m);
-    least = λ s there kept. there;
+    least = λ s there closed. there;
   }
 
   module _ (spread fresh found : ℕ) (s : Spread adjacent within start spread fresh) (new : Finds adjacent within spread fresh found) where
@@ -79,12 +79,12 @@ module _ (adjacent : List ℕ) (within start : ℕ) where
           | inl there ↦ either w .1 (covered v w there i k)
           | inr f ↦ absurd (n f)
         ];
-        least = λ t there kept w m. elim (either w .0 m) [
-          | inl i ↦ s .least t there kept w i
+        least = λ t there closed w m. elim (either w .0 m) [
+          | inl i ↦ s .least t there closed w i
           | inr f ↦
               let p = new w .0 f in
               let v = p .0 .0 in
-              kept w (v, (s .least t there kept v (s .part v (p .0 .1 .0)), p .0 .1 .1)) (p .1)
+              closed w (v, (s .least t there closed v (s .part v (p .0 .1 .0)), p .0 .1 .1)) (p .1)
         ];
       }
 
@@ -102,6 +102,6 @@ module _ (adjacent : List ℕ) (within start : ℕ) where
     pub spread-last : found ≡ 0 → Reached adjacent within start spread
     spread-last none = record {
       started = s .started;
-      kept = λ w p k. elim (covered (p .0) w (p .1 .0) (p .1 .1) k) [ inl there ↦ there | inr f ↦ absurd (not-zero w (rw none at f)) ];
+      closed = λ w p k. elim (covered (p .0) w (p .1 .0) (p .1 .1) k) [ inl there ↦ there | inr f ↦ absurd (not-zero w (rw none at f)) ];
       least = s .least;
     }

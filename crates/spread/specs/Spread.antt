@@ -2,7 +2,7 @@
 -- Working.
 --
 --   AdjacentTo adjacent s w      the node w is adjacent to a node of s
---   Kept adjacent within t       the set t holds, with each of its nodes, those inside the set `within` that are adjacent to it
+--   ClosedInside adjacent within t    the set t holds, with each of its nodes, those inside the set `within` that are adjacent to it
 --   Reached adjacent within start t      t is the least such set that holds the start; so there is only one
 use mathlib.Core.List.{List}
 use Prim.Native.Nat.{ℕ}
@@ -12,10 +12,10 @@ use Rattle.bitset.specs.Members.{_∈_, _⊆_}
 abbrev pub AdjacentTo : List ℕ → ℕ → ℕ → Type 0
 AdjacentTo adjacent s w = (v : ℕ) × ((v ∈ s) × (w ∈ getD adjacent v 0))
 
-abbrev pub Kept : List ℕ → ℕ → ℕ → Type 0
-Kept adjacent within t = (w : ℕ) → AdjacentTo adjacent t w → w ∈ within → w ∈ t
+abbrev pub ClosedInside : List ℕ → ℕ → ℕ → Type 0
+ClosedInside adjacent within t = (w : ℕ) → AdjacentTo adjacent t w → w ∈ within → w ∈ t
 
 pub record Reached (adjacent : List ℕ) (within start t : ℕ) : Type 0 where
   pub started : start ⊆ t
-  pub kept : Kept adjacent within t
-  pub least : (s : ℕ) → start ⊆ s → Kept adjacent within s → t ⊆ s
+  pub closed : ClosedInside adjacent within t
+  pub least : (s : ℕ) → start ⊆ s → ClosedInside adjacent within s → t ⊆ s

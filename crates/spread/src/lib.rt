@@ -1,14 +1,11 @@
 // The spread (the paper's reach): from a start over sets of adjacent nodes, in rounds, until one adds no node. It knows no network and no edge.
-use node_set::NODE_WIDTH;
+use node_set::NODES;
 use node_set::NodeSet;
 use node_set::NodeWord;
 ghost use mathlib.Core.Logic.{_↔_};
 ghost use Prim.Native.Nat.{ℕ};
 ghost use Rattle.bitset.specs.Members.{_∈_};
 ghost use Rattle.spread.specs.Spread.{AdjacentTo, Reached};
-
-// A table of nodes has a row for each node that there can be.
-pub const NODES: usize = NODE_WIDTH as usize;
 
 // The nodes that are adjacent to one of the set.
 fn adjacent_to(adjacent: &[NodeWord; NODES], nodes: NodeSet) -> NodeSet

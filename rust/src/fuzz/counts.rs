@@ -12,7 +12,7 @@ use crate::sides;
 use crate::tally::{Tally, Verdicts};
 
 /// A room is far if it is so many cables away from the server: a spread takes as many rounds to it.
-const FAR: u32 = 24;
+pub const FAR: u32 = 24;
 
 /// Questions by function and answer.
 #[derive(Clone, Debug, Default)]

@@ -1,60 +1,26 @@
 -- `adjacency` meets its contract. The invariant: the table is that of the network with the edges that are gone through.
 -- The measure is the set of the edges left, as a number. Assumes nothing.
-use mathlib.Core.Path.{_≡_, refl, _∙_}
-use mathlib.Core.List.{List}
-use Prim.Native.Nat.{ℕ, _^_, _<_}
+use Prim.Native.Nat.{_^_, _<_}
 use borrow.Author.Needs.{needs}
 use denote.Floats.{passes}
-use lib.ListN.{length, replicate}
-use Rattle.bitset.specs.Members.{_⊆_, _∖_}
-use Rattle.bitset.proofs.Subsets.{⊆-refl}
-use Rattle.bitset.proofs.Scans.{Less, less-lowest, less-lt, none-left, gone-first, gone-next, gone-last}
+use lib.ListN.{replicate}
+use Rattle.bitset.proofs.Scans.{Less, less-lowest, less-lt, none-left}
 use Rattle.node_set.specs.Width.{nodeWidth}
 use Rattle.network.specs.Record.{firstEnd, secondEnd}
-use Rattle.network.specs.declared.Network.{Network}
-use Rattle.graph.specs.Cuts.{only}
 use Rattle.graph.proofs.Sound.{accepted-sound}
-use Rattle.adjacency.specs.Adjacency.{Adjacency, linked}
-use Rattle.adjacency.proofs.Filling.{linked-length, zeros, ends-fit, adjacency-first, adjacency-next}
+use Rattle.adjacency.specs.Adjacency.{Adjacency}
+use Rattle.adjacency.proofs.Filling.{linked-length, zeros, Filled, filled-first, filled-next, filled-last, ends-fit, adjacency-first, adjacency-next}
 use Rattle.adjacency.proofs.adjacency.Statement.{statement}
 use Rattle.adjacency.proofs.adjacency.Tie as tie
 
--- What holds at each turn.
-record Turn (network : Network) (all : ℕ) (adjacent : List ℕ) (left : ℕ) : Type 0 where
-  -- The edges left are among all,
-  within : left ⊆ all
-  -- the table has a row for each node,
-  rows : length adjacent ≡ nodeWidth
-  -- and it is right for the edges that are gone through.
-  table : Adjacency (only network (all ∖ left)) adjacent
-
--- The ends of the edge k are linked, and it leaves those that are left.
-next : (N : Network) (all k : ℕ) {left left′ : ℕ} {adjacent adjacent′ : List ℕ}
-    → (firstEnd N k < nodeWidth) × (secondEnd N k < nodeWidth) → Less left k left′ → Turn N all adjacent left
-    → adjacent′ ≡ linked adjacent (firstEnd N k) (secondEnd N k) → Turn N all adjacent′ left′
-next N all k {left} {left′} {adjacent} ends less turn links =
-    let rows = turn .rows in
-    record {
-      within = λ j m. turn .within j (less .rest j .0 m .0);
-      rows = rw links (linked-length adjacent (firstEnd N k) (secondEnd N k) ∙ rows);
-      table = rw (gone-next all left k left′ (turn .within) less, links)
-          (adjacency-next N (all ∖ left) k adjacent (rw rows (ends .0)) (rw rows (ends .1)) (turn .table));
-    }
-
 abbrev Inv-loop : tie.InvT-loop
-Inv-loop network adjacent₀ left₀ adjacent left = Turn network (left₀ .0) adjacent (left .0)
+Inv-loop network adjacent₀ left₀ adjacent left = Filled Adjacency network (left₀ .0) adjacent (left .0)
 
 abbrev μ-loop : tie.MeasureT-loop
 μ-loop network adjacent₀ left₀ adjacent left = left .0
 
 loop-holds : tie.Need-loop-holds Inv-loop μ-loop
-loop-holds c =
-    let N = c .args .t1 in
-    record {
-      within = ⊆-refl (c .args .edges .0);
-      rows = refl;
-      table = rw (gone-first (c .args .edges .0)) (adjacency-first N (replicate nodeWidth 0) (zeros nodeWidth));
-    }
+loop-holds c = filled-first Adjacency _ _ (adjacency-first (c .args .t1) (replicate nodeWidth 0) (zeros nodeWidth))
 
 lowest-requires : tie.Need-lowest-requires Inv-loop μ-loop
 lowest-requires c κs = search needs
@@ -65,7 +31,7 @@ returns c =
     let l = c .before .before .loop in
     let small : a .edges .0 < 2 ^ 64 = search needs in
     let none = none-left 64 (a .edges .0) (l .left .0) _ small (l .inv .within) (c .before .lowest .ensures) (c .if1 .taken) in
-    rw (gone-last (a .edges .0) (l .left .0) none) at (l .inv .table)
+    filled-last Adjacency (a .t1) (a .edges .0) (l .left .0) (l .adjacent) none (l .inv)
 
 cast-at : tie.Need-cast-at Inv-loop μ-loop
 cast-at c = search needs
@@ -110,7 +76,12 @@ loop-less : tie.Need-loop-less Inv-loop μ-loop
 loop-less c = less-lt _ _ _ (less c)
 
 loop-again : tie.Need-loop-again Inv-loop μ-loop
-loop-again c = next _ _ _ (ends (edge c)) (less c) (edge c .before .before .loop .inv) (c .before .link .ensures)
+loop-again c =
+    let e = ends (edge c) in
+    let l = edge c .before .before .loop in
+    let rows = l .inv .rows in
+    filled-next Adjacency _ _ _ (l .left .0) _ (l .adjacent) _ _ (less c) (l .inv) (c .before .link .ensures) (linked-length (l .adjacent) _ _)
+    (adjacency-next _ _ _ (l .adjacent) (rw rows (e .0)) (rw rows (e .1)) (l .inv .right))
 
 pub adjacency-spec : {M : Type 1} → statement M
 adjacency-spec =

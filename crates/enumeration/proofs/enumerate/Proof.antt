@@ -1,6 +1,7 @@
 -- `enumerate` meets its contract: the rows in which the source joins are all rows.
 -- Assumes nothing.
-use mathlib.Core.Path.{refl}
+use mathlib.Core.Path.{refl, subst}
+use Prim.Native.Nat.{ℕ}
 use native.Mathlib.Omega.{arith}
 use borrow.Author.Needs.{needs}
 use Rattle.bitset.specs.Members.{_⊆_}
@@ -9,7 +10,8 @@ use Rattle.graph.specs.Cuts.{only}
 use Rattle.graph.proofs.Sound.{Sound, accepted-sound}
 use Rattle.branches.specs.Enumeration.{relevantNetwork}
 use Rattle.branches.proofs.Part.{part-bounded}
-use Rattle.enumeration.specs.Tables.{Tables}
+use Rattle.adjacency.specs.Adjacency.{Adjacency}
+use Rattle.enumeration.specs.Tables.{Incidence, Tables}
 use Rattle.enumeration.proofs.First.{relevant-present, blank-fed, source-free, source-rest, put-all}
 use Rattle.enumeration.proofs.enumerate.Statement.{statement}
 use Rattle.enumeration.proofs.enumerate.Tie as tie
@@ -21,6 +23,18 @@ sound c = accepted-sound (c .args .network) (search needs) (c .pre .0)
 -- The relevant edges are present.
 within : (c : tie.Start) → (c .args .edges .0) ⊆ present (c .args .network)
 within c = rw (c .pre .2) (relevant-present (c .args .network) (sound c))
+
+-- The neighbours are those over the relevant edges alone,
+neighbours : (c : tie.After-adjacency) → Adjacency (relevantNetwork (c .before .before .before .args .network)) (c .adjacency .result)
+neighbours c =
+    let s = c .before .before .before in
+    subst (λ (h : ℕ). Adjacency (only (s .args .network) h) (c .adjacency .result)) (s .pre .2) (c .adjacency .ensures)
+
+-- and so are the edges at each node.
+edges : (c : tie.After-incidence) → Incidence (relevantNetwork (c .before .before .before .before .args .network)) (c .incidence .result)
+edges c =
+    let s = c .before .before .before .before in
+    subst (λ (h : ℕ). Incidence (only (s .args .network) h) (c .incidence .result)) (s .pre .2) (c .incidence .ensures)
 
 adjacency-requires : tie.Need-adjacency-requires
 adjacency-requires c κs = let s = c .before .before in (s .pre .0, within s)
@@ -66,8 +80,8 @@ returns c =
     let none = b .blank .ensures N (s .pre .1) refl in
     let tables : Tables (relevantNetwork N) (near .adjacency .result) (at .incidence .result) = record {
       bounded = part-bounded N S;
-      nodes = rw (s .pre .2) at (near .adjacency .ensures);
-      edges = rw (s .pre .2) at (at .incidence .ensures);
+      nodes = neighbours near;
+      edges = edges at;
     } in
     let fed = blank-fed N S first none in
     put-all N S first none _ _ _ _ _ _ _

@@ -1,63 +1,30 @@
 -- `incidence` meets its contract. The invariant: the table is that of the network with the edges that are gone through.
 -- The measure is the set of the edges left, as a number. Assumes nothing.
-use mathlib.Core.Path.{_≡_, refl, ap, _∙_}
+use mathlib.Core.Path.{ap, _∙_}
 use mathlib.Core.List.{List}
 use Prim.Native.Nat.{ℕ, _^_, _<_}
 use borrow.Author.Needs.{needs}
 use denote.Floats.{passes}
-use lib.ListN.{length, replicate}
-use Rattle.bitset.specs.Members.{_⊆_, _∖_}
-use Rattle.bitset.proofs.Subsets.{⊆-refl}
-use Rattle.bitset.proofs.Scans.{Less, less-lowest, less-lt, none-left, gone-first, gone-next, gone-last}
+use lib.ListN.{replicate}
+use Rattle.bitset.proofs.Scans.{Less, less-lowest, less-lt, none-left}
 use Rattle.node_set.specs.Width.{nodeWidth}
 use Rattle.network.specs.Record.{firstEnd, secondEnd}
-use Rattle.network.specs.declared.Network.{Network}
-use Rattle.graph.specs.Cuts.{only}
 use Rattle.graph.proofs.Sound.{accepted-sound}
 use Rattle.adjacency.specs.Adjacency.{withMember}
-use Rattle.adjacency.proofs.Filling.{with-both-length, zeros, ends-fit}
+use Rattle.adjacency.proofs.Filling.{with-both-length, zeros, Filled, filled-first, filled-next, filled-last, ends-fit}
 use Rattle.enumeration.specs.Tables.{Incidence}
 use Rattle.enumeration.proofs.Filling.{incidence-first, incidence-next}
 use Rattle.enumeration.proofs.incidence.Statement.{statement}
 use Rattle.enumeration.proofs.incidence.Tie as tie
 
--- What holds at each turn.
-record Turn (network : Network) (all : ℕ) (incident : List ℕ) (left : ℕ) : Type 0 where
-  -- The edges left are among all,
-  within : left ⊆ all
-  -- the table has a row for each node,
-  rows : length incident ≡ nodeWidth
-  -- and it is right for the edges that are gone through.
-  table : Incidence (only network (all ∖ left)) incident
-
--- The edge k is put into the rows of its ends, and it leaves those that are left.
-next : (N : Network) (all k : ℕ) {left left′ : ℕ} {incident one both : List ℕ}
-    → (firstEnd N k < nodeWidth) × (secondEnd N k < nodeWidth) → Less left k left′ → Turn N all incident left
-    → one ≡ withMember incident (firstEnd N k) k → both ≡ withMember one (secondEnd N k) k → Turn N all both left′
-next N all k {left} {left′} {incident} ends less turn first second =
-    let rows = turn .rows in
-    let puts = second ∙ ap (λ (t : List ℕ). withMember t (secondEnd N k) k) first in
-    record {
-      within = λ j m. turn .within j (less .rest j .0 m .0);
-      rows = rw puts (with-both-length incident _ _ _ _ ∙ rows);
-      table = rw (gone-next all left k left′ (turn .within) less, puts)
-          (incidence-next N (all ∖ left) k incident (rw rows (ends .0)) (rw rows (ends .1)) (turn .table));
-    }
-
 abbrev Inv-loop : tie.InvT-loop
-Inv-loop network incident₀ left₀ incident left = Turn network (left₀ .0) incident (left .0)
+Inv-loop network incident₀ left₀ incident left = Filled Incidence network (left₀ .0) incident (left .0)
 
 abbrev μ-loop : tie.MeasureT-loop
 μ-loop network incident₀ left₀ incident left = left .0
 
 loop-holds : tie.Need-loop-holds Inv-loop μ-loop
-loop-holds c =
-    let N = c .args .t1 in
-    record {
-      within = ⊆-refl (c .args .edges .0);
-      rows = refl;
-      table = rw (gone-first (c .args .edges .0)) (incidence-first N (replicate nodeWidth 0) (zeros nodeWidth));
-    }
+loop-holds c = filled-first Incidence _ _ (incidence-first (c .args .t1) (replicate nodeWidth 0) (zeros nodeWidth))
 
 lowest-requires : tie.Need-lowest-requires Inv-loop μ-loop
 lowest-requires c κs = search needs
@@ -68,7 +35,7 @@ returns c =
     let l = c .before .before .loop in
     let small : a .edges .0 < 2 ^ 64 = search needs in
     let none = none-left 64 (a .edges .0) (l .left .0) _ small (l .inv .within) (c .before .lowest .ensures) (c .if1 .taken) in
-    rw (gone-last (a .edges .0) (l .left .0) none) at (l .inv .table)
+    filled-last Incidence (a .t1) (a .edges .0) (l .left .0) (l .incident) none (l .inv)
 
 cast-at : tie.Need-cast-at Inv-loop μ-loop
 cast-at c = search needs
@@ -121,9 +88,17 @@ loop-less c = less-lt _ _ _ (less c)
 
 loop-again : tie.Need-loop-again Inv-loop μ-loop
 loop-again c =
+    let e = ends (edge c) in
+    let low = edge c .before in
+    let k = low .lowest .result in
+    let l = low .before .loop in
+    let rows = l .inv .rows in
     let two = c .before in
     let one = two .before .before .before in
-    next _ _ _ (ends (edge c)) (less c) (edge c .before .before .loop .inv) (one .add-incident .ensures) (two .add-incident2 .ensures)
+    let second = secondEnd (low .before .before .args .t1) k in
+    let puts = two .add-incident2 .ensures ∙ ap (λ (t : List ℕ). withMember t second k) (one .add-incident .ensures) in
+    filled-next Incidence _ _ _ (l .left .0) _ (l .incident) _ _ (less c) (l .inv) puts (with-both-length (l .incident) _ _ _ _)
+    (incidence-next _ _ _ (l .incident) (rw rows (e .0)) (rw rows (e .1)) (l .inv .right))
 
 pub incidence-spec : {M : Type 1} → statement M
 incidence-spec =

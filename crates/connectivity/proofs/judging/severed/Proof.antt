@@ -1,13 +1,14 @@
 -- `judging::severed` meets its contract: the spread is over the table of the edges outside the set, from the source.
 -- Assumes nothing.
-use mathlib.Core.Path.{_≡_}
+use mathlib.Core.Path.{_≡_, subst}
+use Prim.Native.Nat.{ℕ}
 use native.Mathlib.Omega.{arith}
 use Rattle.bitset.specs.Members.{_∖_}
 use Rattle.bitset.proofs.Sets.{minus-⊆, in-single}
 use Rattle.bitset.proofs.Results.{single-power, difference-minus}
 use Rattle.node_set.specs.Width.{nodeWidth}
 use Rattle.network.specs.Record.{present}
-use Rattle.graph.specs.Cuts.{without}
+use Rattle.graph.specs.Cuts.{only, without}
 use Rattle.graph.specs.CutTests.{severed}
 use Rattle.graph.proofs.Sound.{Sound, accepted-sound}
 use Rattle.adjacency.specs.Adjacency.{Adjacency}
@@ -33,7 +34,9 @@ over c = difference-minus _ _ _ (c .difference .ensures)
 table : (c : tie.After-adjacency)
     → let a = c .before .before .before .args in
     Adjacency (without (a .network) (a .set .0)) (c .adjacency .result)
-table c = rw (over (c .before)) at (c .adjacency .ensures)
+table c =
+    let a = c .before .before .before .args in
+    subst (λ (h : ℕ). Adjacency (only (a .network) h) (c .adjacency .result)) (over (c .before)) (c .adjacency .ensures)
 
 adjacency-requires : tie.Need-adjacency-requires
 adjacency-requires c κs =
