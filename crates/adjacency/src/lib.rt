@@ -21,7 +21,8 @@ fn add(adjacent: &mut [NodeWord; NODES], a: u8, b: u8)
     ensures { λ _. ⌜ now (adjacent .exit) ≡ withMember (now (adjacent .entry)) a b ⌝ }
 {
     let slot = a as usize;
-    let beside = NodeSet(adjacent[slot]).with(b as u32);
+    let row = adjacent[slot];
+    let beside = NodeSet(row).with(b as u32);
     adjacent[slot] = beside.0;
 }
 
@@ -61,15 +62,18 @@ pub fn without_node(adjacent: &[NodeWord; NODES], c: u8) -> [NodeWord; NODES]
 {
     let mut others = *adjacent;
     let slot = c as usize;
-    let mut left = NodeSet(adjacent[slot]).without(c as u32);
+    let gone = adjacent[slot];
     others[slot] = 0;
+    // The other nodes that have c in their rows.
+    let mut left = NodeSet(gone).without(c as u32);
     loop {
         let v = left.lowest();
         if NODE_WIDTH <= v {
             return others;
         }
         let at = v as usize;
-        let beside = NodeSet(others[at]).without(c as u32);
+        let row = others[at];
+        let beside = NodeSet(row).without(c as u32);
         others[at] = beside.0;
         left = left.without_lowest();
     }

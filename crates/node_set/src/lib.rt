@@ -9,10 +9,10 @@ ghost use Rattle.node_set.specs.Width.{nodeWidth};
 // The most nodes, `nodeWidth` of specs/Width.antt, and the word that has a bit for each. Rows of such words are lent for source sides.
 pub const NODE_WIDTH: u32 = 64;
 
+pub type NodeWord = u64;
+
 // The rows of a table that has one for each node that there can be.
 pub const NODES: usize = NODE_WIDTH as usize;
-
-pub type NodeWord = u64;
 
 pub struct NodeSet(pub NodeWord);
 

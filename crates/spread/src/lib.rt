@@ -18,7 +18,8 @@ fn adjacent_to(adjacent: &[NodeWord; NODES], nodes: NodeSet) -> NodeSet
             return beside;
         }
         let slot = left.lowest() as usize;
-        beside = beside.union(NodeSet(adjacent[slot]));
+        let row = adjacent[slot];
+        beside = beside.union(NodeSet(row));
         left = left.without_lowest();
     }
 }

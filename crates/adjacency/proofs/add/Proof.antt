@@ -8,11 +8,11 @@ use Rattle.node_set.specs.Width.{nodeWidth}
 use Rattle.adjacency.proofs.add.Statement.{statement}
 use Rattle.adjacency.proofs.add.Tie as tie
 
-mul-t6 : tie.Need-mul-t6
-mul-t6 c = search needs
+mul-row : tie.Need-mul-row
+mul-row c = search needs
 
-element-copy-out-t9 : tie.Need-element-copy-out-t9
-element-copy-out-t9 c = search needs
+element-copy-out-row : tie.Need-element-copy-out-row
+element-copy-out-row c = search needs
 
 with-requires : tie.Need-with-requires
 with-requires c κs = search needs
@@ -31,4 +31,4 @@ returns c =
 pub add-spec : {M : Type 1} → statement M
 add-spec =
     tie.close
-    (tie.spec mul-t6 element-copy-out-t9 with-requires mul-adjacent element-write-adjacent returns)
+    (tie.spec mul-row element-copy-out-row with-requires mul-adjacent element-write-adjacent returns)

@@ -18,25 +18,25 @@ record Turn (adjacent : List ℕ) (c : ℕ) (others : List ℕ) (left : ℕ) : T
   parted : Parted adjacent others c left
 
 abbrev Inv-loop : tie.InvT-loop
-Inv-loop adjacent c others₀ slot left₀ others left = Turn adjacent c others (left .0)
+Inv-loop adjacent c others₀ slot gone left₀ others left = Turn adjacent c others (left .0)
 
 abbrev μ-loop : tie.MeasureT-loop
-μ-loop adjacent c others₀ slot left₀ others left = left .0
+μ-loop adjacent c others₀ slot gone left₀ others left = left .0
 
-mul-t10 : tie.Need-mul-t10 Inv-loop μ-loop
-mul-t10 c = search needs
+mul-gone : tie.Need-mul-gone Inv-loop μ-loop
+mul-gone c = search needs
 
-element-copy-out-t13 : tie.Need-element-copy-out-t13 Inv-loop μ-loop
-element-copy-out-t13 c = search needs
-
-without-requires : tie.Need-without-requires Inv-loop μ-loop
-without-requires c κs = search needs
+element-copy-out-gone : tie.Need-element-copy-out-gone Inv-loop μ-loop
+element-copy-out-gone c = search needs
 
 mul-others : tie.Need-mul-others Inv-loop μ-loop
 mul-others c = search needs
 
 array-write-others : tie.Need-array-write-others Inv-loop μ-loop
 array-write-others c = search needs
+
+without-requires : tie.Need-without-requires Inv-loop μ-loop
+without-requires c κs = search needs
 
 loop-holds : tie.Need-loop-holds Inv-loop μ-loop
 loop-holds c =
@@ -57,11 +57,11 @@ returns c =
 cast-at : tie.Need-cast-at Inv-loop μ-loop
 cast-at c = search needs
 
-mul-t19 : tie.Need-mul-t19 Inv-loop μ-loop
-mul-t19 c = search needs
+mul-row : tie.Need-mul-row Inv-loop μ-loop
+mul-row c = search needs
 
-array-read-t22 : tie.Need-array-read-t22 Inv-loop μ-loop
-array-read-t22 c = search needs
+array-read-row : tie.Need-array-read-row Inv-loop μ-loop
+array-read-row c = search needs
 
 without-requires-2 : tie.Need-without-requires-2 Inv-loop μ-loop
 without-requires-2 c κs = search needs
@@ -106,17 +106,17 @@ without-node-spec =
     (tie.spec
     Inv-loop
     μ-loop
-    mul-t10
-    element-copy-out-t13
-    without-requires
+    mul-gone
+    element-copy-out-gone
     mul-others
     array-write-others
+    without-requires
     loop-holds
     lowest-requires
     returns
     cast-at
-    mul-t19
-    array-read-t22
+    mul-row
+    array-read-row
     without-requires-2
     mul-others-2
     array-write-others-2

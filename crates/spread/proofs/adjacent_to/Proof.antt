@@ -65,11 +65,11 @@ row c =
 cast-slot : tie.Need-cast-slot Inv-loop μ-loop
 cast-slot c = search (needs, row c)
 
-mul-t8 : tie.Need-mul-t8 Inv-loop μ-loop
-mul-t8 c = search (needs, row c)
+mul-row : tie.Need-mul-row Inv-loop μ-loop
+mul-row c = search (needs, row c)
 
-element-copy-out-t11 : tie.Need-element-copy-out-t11 Inv-loop μ-loop
-element-copy-out-t11 c = search (needs, row c)
+element-copy-out-row : tie.Need-element-copy-out-row Inv-loop μ-loop
+element-copy-out-row c = search (needs, row c)
 
 union-requires : tie.Need-union-requires Inv-loop μ-loop
 union-requires c κs = search needs
@@ -108,8 +108,8 @@ adjacent-to-spec =
     returns
     lowest-requires
     cast-slot
-    mul-t8
-    element-copy-out-t11
+    mul-row
+    element-copy-out-row
     union-requires
     without-lowest-requires
     loop-less
