@@ -1,13 +1,15 @@
 -- The two halves of a branch as the code goes through them: what each step keeps, and what each way through puts.
 -- Assumes, where walks are spoken of, a network that keeps the bounds of edges and ends.
 use mathlib.Core.Path.{_≡_, refl, sym, ap, _∙_}
-use mathlib.Core.Bool.{Bool, true, false, not}
+use mathlib.Core.Bool.{Bool, true, false, not, _&&_, true≢false}
 use mathlib.Core.List.{List, [], _∷_}
 use mathlib.Core.Logic.{_⊎_, inl, inr}
 use Prim.Native.Nat.{ℕ, _^_, _≤_, _<_}
 use native.Mathlib.Decide.{ℕ-discrete}
 use native.Mathlib.Omega.{arith}
+use borrow.Author.Tests.{leb-true, leb-false}
 use lib.Bits.{bitOr}
+use lib.Dec.{leb}
 use lib.ListN.{getD}
 use Rattle.bitset.specs.Members.{has, insert, _∖_, size, _∈_}
 use Rattle.bitset.proofs.Subsets.{⊆-refl}
@@ -118,6 +120,22 @@ candidate-free b w low h = rw low (candidate-in b (rw low at h) .1)
 pub flip : (b : Bool) {a : Bool} → not b ≡ a → b ≡ not a
 flip true e = ap not e
 flip false e = ap not e
+
+-- Where a row is wanted and the other test holds,
+pub wanted-and : (n limit : ℕ) (h r : Bool) → r ≡ leb n limit && h → r ≡ true → (n ≤ limit) × (h ≡ true)
+wanted-and n limit h r e t = go (leb n limit) refl (sym e ∙ t)
+  where
+    go : (s : Bool) → leb n limit ≡ s → s && h ≡ true → (n ≤ limit) × (h ≡ true)
+    go true f k = (leb-true n limit f, k)
+    go false f k = absurd (true≢false (sym k))
+
+-- and where not both do.
+pub unwanted-or : (n limit : ℕ) (h r : Bool) → r ≡ leb n limit && h → r ≡ false → (limit < n) ⊎ (h ≡ false)
+unwanted-or n limit h r e t = go (leb n limit) refl (sym e ∙ t)
+  where
+    go : (s : Bool) → leb n limit ≡ s → s && h ≡ false → (limit < n) ⊎ (h ≡ false)
+    go true f k = inr k
+    go false f k = inl (leb-false n limit f)
 
 -- The rows in which v joins, by the branch d that was made and its test t.
 pub join-half : (M : Network) (b : Branch) (v : ℕ) (d : Branch) → d ≡ joined M b v → (t : Bool) → t ≡ isOpen d → joinRows M b v ≡ rowsIf t M d

@@ -9,10 +9,12 @@ use node_set::NodeSet;
 use node_set::NodeWord;
 use spread::reach;
 ghost use mathlib.Core.Path.{_≡_};
+ghost use mathlib.Core.Bool.{_&&_};
 ghost use mathlib.Core.List.{[], _∷_};
 ghost use Prim.Native.Nat.{_^_, _≤_, _<_};
+ghost use lib.Dec.{leb};
 ghost use lib.ListN.{set};
-ghost use Rattle.bitset.specs.Members.{_∈_, _⊆_, _∖_};
+ghost use Rattle.bitset.specs.Members.{has, _∈_, _⊆_, _∖_};
 ghost use Rattle.node_set.specs.Width.{nodeWidth};
 ghost use Rattle.network.specs.Record.{faultOf, present};
 ghost use Rattle.graph.specs.Reach.{Bounded};
@@ -166,6 +168,17 @@ fn put_row(b: Branch, cuts: &mut [u64], sides: &mut [NodeWord], n: usize, limit:
     n + 1
 }
 
+// Whether v can be left out: a row is still wanted, and the sink reaches v.
+fn can_leave_out(b: Branch, v: u32, n: usize, limit: usize) -> bool
+    ensures { λ r. ⌜ r ≡ leb n limit && has (b .rest .0) v ⌝ }
+{
+    if limit < n {
+        return false;
+    }
+    let rest = b.rest;
+    rest.contains(v)
+}
+
 // Writes the rows in which v joins from place n on, and gives the place after them. One row past the limit, which no area holds, is enough.
 fn join(
     adjacent: &[NodeWord; NODES],
@@ -178,13 +191,10 @@ fn join(
     n: usize,
     limit: usize,
 ) -> usize
-    requires { ⌜ (v < nodeWidth) × (v ∈ b .undecided .0) × Capacity n limit (now cuts) (now sides) ⌝ }
+    requires { ⌜ (v < nodeWidth) × (v ∈ b .undecided .0) × (n ≤ limit) × Capacity n limit (now cuts) (now sides) ⌝ }
     ensures { λ r. ⌜ Capacity r limit (now (cuts .exit)) (now (sides .exit)) × JoinPut (now (adjacent .entry)) (now (incident .entry)) sink b v
         n limit (now (cuts .entry)) (now (sides .entry)) (now (cuts .exit)) (now (sides .exit)) r ⌝ }
 {
-    if limit < n {
-        return n;
-    }
     let next = joined(adjacent, incident, b, v, sink);
     if !is_open(next) {
         return n;
@@ -197,7 +207,8 @@ fn join(
     leave_out(adjacent, incident, sink, next, w, cuts, sides, m, limit)
 }
 
-// Writes the rows in which v is left out for good from place n on, and gives the place after them.
+// Writes the rows in which v is left out for good from place n on, and gives the place after them: with v left out the next candidate joins,
+// and then it is left out too.
 fn leave_out(
     adjacent: &[NodeWord; NODES],
     incident: &[u64; NODES],
@@ -213,20 +224,18 @@ fn leave_out(
     ensures { λ r. ⌜ Capacity r limit (now (cuts .exit)) (now (sides .exit)) × LeaveOutPut (now (adjacent .entry)) (now (incident .entry)) sink b v
         n limit (now (cuts .entry)) (now (sides .entry)) (now (cuts .exit)) (now (sides .exit)) r ⌝ }
 {
-    if limit < n {
-        return n;
+    let mut next = b;
+    let mut w = v;
+    let mut m = n;
+    while can_leave_out(next, w, m, limit) {
+        next = left_out(next, w);
+        w = candidate(next);
+        if NODE_WIDTH <= w {
+            return put_row(next, cuts, sides, m, limit);
+        }
+        m = join(adjacent, incident, sink, next, w, cuts, sides, m, limit);
     }
-    let rest = b.rest;
-    if !rest.contains(v) {
-        return n;
-    }
-    let next = left_out(b, v);
-    let w = candidate(next);
-    if NODE_WIDTH <= w {
-        return put_row(next, cuts, sides, n, limit);
-    }
-    let m = join(adjacent, incident, sink, next, w, cuts, sides, n, limit);
-    leave_out(adjacent, incident, sink, next, w, cuts, sides, m, limit)
+    m
 }
 
 // The branch in which nothing is decided yet.

@@ -58,7 +58,7 @@ join-requires c κs =
     let N = s .args .network in
     let S = sound s in
     let none = b .blank .ensures N (s .pre .1) refl in
-    (omega (arith, S .source-lt, S .small), source-free N S (b .blank .result) none, s .pre .3)
+    (omega (arith, S .source-lt, S .small), source-free N S (b .blank .result) none, omega arith, s .pre .3)
 
 same-length : tie.Need-same-length
 same-length c = search needs
