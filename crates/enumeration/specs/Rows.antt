@@ -3,7 +3,7 @@
 --
 --   Fed M b          the sink is in the rest of the branch b, and it is not undecided
 --   Whole M b        the rest of the branch b is what the sink reaches inside it
---   WholeWithout M b v          the same, asked only where v is not in that rest
+--   Hangs M rest v sink         every node of the rest but v hangs on the sink: the sink reaches it inside the rest
 --   Capacity n limit cuts sides     rows are counted to one past the limit, and n are; no area is longer than the limit
 --   Put l n limit cuts sides cuts′ sides′ r
 --                    the areas cuts and sides have become cuts′ and sides′: they hold the rows of l from place n on, as far as they reach,
@@ -32,8 +32,8 @@ pub record Fed (M : Network) (b : Branch) : Type 0 where
 abbrev pub Whole : Network → Branch → Type 0
 Whole M b = reachIn M (b .rest .0) (M .sink) ≡ b .rest .0
 
-abbrev pub WholeWithout : Network → Branch → ℕ → Type 0
-WholeWithout M b v = (v ∈ b .rest .0 → ⊥) → Whole M b
+abbrev pub Hangs : Network → ℕ → ℕ → ℕ → Type 0
+Hangs M rest v sink = (w : ℕ) → w ∈ rest → (w ≡ v → ⊥) → w ∈ reachIn M rest sink
 
 pub record Capacity (n limit : ℕ) (cuts sides : List ℕ) : Type 0 where
   pub counted : n ≤ limit + 1
@@ -51,12 +51,12 @@ pub record Put (l : List Row) (n limit : ℕ) (cuts sides cuts′ sides′ : Lis
 module _ (adjacent incident : List ℕ) (sink : ℕ) (b : Branch) (v : ℕ) where
   -- The branch r is b with v joined.
   abbrev pub JoinedBranch : Branch → Type 0
-  JoinedBranch r = (M : Network) → Tables M adjacent incident → sink ≡ M .sink → sink ∈ (b .rest .0 ∖ 2 ^ v) → WholeWithout M b v → r ≡ joined M b v
+  JoinedBranch r = (M : Network) → Tables M adjacent incident → sink ≡ M .sink → sink ∈ (b .rest .0 ∖ 2 ^ v) → Hangs M (b .rest .0) v (M .sink) → r ≡ joined M b v
 
   -- The rows in which v joins are put.
   abbrev pub JoinPut : ℕ → ℕ → List ℕ → List ℕ → List ℕ → List ℕ → ℕ → Type 0
   JoinPut n limit cuts sides cuts′ sides′ r =
-      (M : Network) → Tables M adjacent incident → sink ≡ M .sink → Fed M b → WholeWithout M b v → Put (joinRows M b v) n limit cuts sides cuts′ sides′ r
+      (M : Network) → Tables M adjacent incident → sink ≡ M .sink → Fed M b → Hangs M (b .rest .0) v (M .sink) → Put (joinRows M b v) n limit cuts sides cuts′ sides′ r
 
   -- The rows in which v is left out are put.
   abbrev pub LeaveOutPut : ℕ → ℕ → List ℕ → List ℕ → List ℕ → List ℕ → ℕ → Type 0

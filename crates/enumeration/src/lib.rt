@@ -23,7 +23,7 @@ ghost use Rattle.graph.specs.Relevant.{reachIn, relevantNodes, relevantEdges};
 ghost use Rattle.branches.specs.Enumeration.{candidate, leftOut, isOpen, rowOf, rows, blank};
 ghost use Rattle.adjacency.specs.Adjacency.{Adjacency, withMember};
 ghost use Rattle.enumeration.specs.Tables.{Incidence};
-ghost use Rattle.enumeration.specs.Rows.{Capacity, Put, JoinedBranch, JoinPut, LeaveOutPut};
+ghost use Rattle.enumeration.specs.Rows.{Hangs, Capacity, Put, JoinedBranch, JoinPut, LeaveOutPut};
 
 // ---- the edges at each node
 
@@ -60,8 +60,9 @@ fn incidence(network: Network, edges: EdgeSet) -> [u64; NODES]
 
 // What the sink reaches once v has joined: as before if it did not reach v.
 fn rest_without(adjacent: &[NodeWord; NODES], rest: NodeSet, v: u32, sink: u32) -> NodeSet
+    requires { ⌜ v < nodeWidth ⌝ }
     ensures { λ r. ⌜ ((M : Network) → Bounded M → Adjacency M (now (adjacent .entry)) → sink ∈ (rest .0 ∖ 2 ^ v)
-        → ((v ∈ rest .0 → ⊥) → reachIn M (rest .0) sink ≡ rest .0) → r .0 ≡ reachIn M (rest .0 ∖ 2 ^ v) sink) ⌝ }
+        → Hangs M (rest .0) v sink → r .0 ≡ reachIn M (rest .0 ∖ 2 ^ v) sink) ⌝ }
 {
     if rest.contains(v) {
         reach(adjacent, rest.without(v), NodeSet::single(sink))

@@ -13,10 +13,10 @@ use Rattle.network.specs.declared.Network.{Network}
 use Rattle.branches.specs.declared.Branch.{Branch}
 use Rattle.branches.specs.Enumeration.{joined, leftOut, leaveOutRows}
 use Rattle.enumeration.specs.Tables.{Tables}
-use Rattle.enumeration.specs.Rows.{Fed, Whole, WholeWithout, Capacity, Put}
+use Rattle.enumeration.specs.Rows.{Fed, Whole, Hangs, Capacity, Put}
 use Rattle.enumeration.proofs.Putting.{put-past}
 use Rattle.enumeration.proofs.Halves.{flip, sink-left, joined-fed, joined-whole, leftOut-fed, leftOut-whole, leftOut-undecided}
-use Rattle.enumeration.proofs.Halves.{undecided-fewer, candidate-free, wanted-and, unwanted-or, join-half, leave-out-half, shut-put, leaf-put, split-put}
+use Rattle.enumeration.proofs.Halves.{whole-hangs, undecided-fewer, candidate-free, wanted-and, unwanted-or, join-half, leave-out-half, shut-put, leaf-put, split-put}
 use Prim.Native.Nat.{ℕ, _≤_, _<_}
 use borrow.Fn.Kinds.{In}
 use borrow.Fn.PlainCycle.{Measures, is, falls, and}
@@ -98,10 +98,10 @@ join-joined-requires t c κs = search needs
 next-joined : (t : ℕ) (c : join-lts.After-joined (join-claims t) (join-at t) join.Post) (M : Network)
     → let a = join-start t c .args in
     Tables M (a .adjacent .now) (a .incident .now) → a .sink ≡ M .sink → Fed M (a .b)
-    → WholeWithout M (a .b) (a .v) → c .joined .result ≡ joined M (a .b) (a .v)
-next-joined t c M tab e fed whole =
+    → Hangs M (a .b .rest .0) (a .v) (M .sink) → c .joined .result ≡ joined M (a .b) (a .v)
+next-joined t c M tab e fed hangs =
     let s = join-start t c in
-    c .joined .ensures .1 M tab e (rw e (sink-left M (tab .bounded) (s .args .b) (s .args .v) (s .pre .1 .1) fed)) whole
+    c .joined .ensures .1 M tab e (rw e (sink-left M (tab .bounded) (s .args .b) (s .args .v) (s .pre .1 .1) fed)) hangs
 
 join-is-open-requires : (t : ℕ) → join-lts.Need-is-open-requires (join-claims t) (join-at t) join.Post
 join-is-open-requires t c κs = search needs
@@ -113,8 +113,8 @@ join-returns t c =
     let s = join-start t j in
     let capacity = s .pre .1 .3 in (
       capacity,
-      λ M tab e fed whole.
-          let next = next-joined t j M tab e fed whole in
+      λ M tab e fed hangs.
+          let next = next-joined t j M tab e fed hangs in
           let half = join-half M (s .args .b) (s .args .v) _ next _ (opened .ensures) in
           shut-put M _ (opened .result) (j .joined .result) half _ _ _ _ capacity (flip (opened .result) (c .if1 .taken)),
     )
@@ -145,8 +145,8 @@ join-returns-2 t c =
     let yes = flip (opened .result) (i .before .before .if1 .left) in
     let low = i .before .candidate .ensures in (
       put .0,
-      λ M tab e fed whole.
-          let next = next-joined t (o .before) M tab e fed whole in
+      λ M tab e fed hangs.
+          let next = next-joined t (o .before) M tab e fed hangs in
           let half = join-half M (s .args .b) (s .args .v) _ next _ (opened .ensures) in
           leaf-put M _ (opened .result) d half _ _ _ _ (s .pre .1 .3) yes _ low (i .if2 .taken) _ _ _ (put .1),
     )
@@ -197,13 +197,13 @@ join-returns-3 t c =
     let yes = flip (opened .result) (i .before .before .if1 .left) in
     let low = i .before .candidate .ensures in (
       two .leave-out .ensures .0,
-      λ M tab e fed whole.
-          let next = next-joined t (o .before) M tab e fed whole in
+      λ M tab e fed hangs.
+          let next = next-joined t (o .before) M tab e fed hangs in
           let half = join-half M b v _ next _ (opened .ensures) in
           let fed′ : Fed M d = rw next (joined-fed M (tab .bounded) b v (s .pre .1 .1) fed) in
           let whole′ : Whole M d = rw next (joined-whole M (tab .bounded) b v (s .pre .1 .1) fed) in
           split-put M _ (opened .result) d half _ _ _ _ (s .pre .1 .3) yes _ low (i .if2 .left) _ _ _ _ _ _
-          (one .join .ensures .1 M tab e fed′ (λ _. whole′)) (two .leave-out .ensures .1 M tab e fed′ whole′),
+          (one .join .ensures .1 M tab e fed′ (whole-hangs M d _ whole′)) (two .leave-out .ensures .1 M tab e fed′ whole′),
     )
 
 -- ---- a node is left out
@@ -337,7 +337,7 @@ leave-out-loop-again t c =
             fed′,
             whole′,
             λ cuts′ sides′ r p. goes .2 cuts′ sides′ r
-                (split-put M _ _ d half _ _ _ _ (l .inv .room) (wanted t o .1) _ low h _ _ _ _ _ _ (j .join .ensures .1 M tab e fed′ (λ _. whole′)) p),
+                (split-put M _ _ d half _ _ _ _ (l .inv .room) (wanted t o .1) _ low h _ _ _ _ _ _ (j .join .ensures .1 M tab e fed′ (whole-hangs M d _ whole′)) p),
           );
     }
 

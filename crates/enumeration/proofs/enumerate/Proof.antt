@@ -12,7 +12,7 @@ use Rattle.branches.specs.Enumeration.{relevantNetwork}
 use Rattle.branches.proofs.Part.{part-bounded}
 use Rattle.adjacency.specs.Adjacency.{Adjacency}
 use Rattle.enumeration.specs.Tables.{Incidence, Tables}
-use Rattle.enumeration.proofs.First.{relevant-present, blank-fed, source-free, source-rest, put-all}
+use Rattle.enumeration.proofs.First.{relevant-present, blank-fed, source-free, blank-hangs, put-all}
 use Rattle.enumeration.proofs.enumerate.Statement.{statement}
 use Rattle.enumeration.proofs.enumerate.Tie as tie
 
@@ -85,7 +85,7 @@ returns c =
     } in
     let fed = blank-fed N S first none in
     put-all N S first none _ _ _ _ _ _ _
-    (j .join .ensures .1 (relevantNetwork N) tables refl fed (λ off. absurd (off (source-rest N S first none))))
+    (j .join .ensures .1 (relevantNetwork N) tables refl fed (blank-hangs N S first none))
 
 pub enumerate-spec : {M : Type 1} → statement M
 enumerate-spec =

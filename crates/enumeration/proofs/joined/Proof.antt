@@ -54,8 +54,8 @@ returns c =
     let side = with-member nodeWidth (b .side .0) v _ h (w .with .ensures) in
     let undecided = without-minus (b .undecided .0) v _ (r .before .without .ensures) in (
       undecided,
-      λ M t e there whole.
-          let rest = r .rest-without .ensures M (t .bounded) (t .nodes) there (λ off. rw e (whole off))
+      λ M t e there hangs.
+          let rest = r .rest-without .ensures M (t .bounded) (t .nodes) there (rw e hangs)
           ∙ ap (reachIn M (b .rest .0 ∖ 2 ^ v)) e in
           let around = with-member nodeWidth _ v _ h (c .before .before .with2 .ensures)
           ∙ ap (λ (x : ℕ). insert x v) (union-or (b .around .0) _ _ (u .union .ensures))

@@ -1,15 +1,15 @@
 -- `rest_without` meets its contract: what the sink did not reach makes no difference to what it reaches.
 -- Assumes nothing.
-use mathlib.Core.Path.{_≡_, sym, ap, _∙_}
+use mathlib.Core.Path.{_≡_, sym, _∙_}
 use mathlib.Core.Bool.{false}
-use Prim.Native.Nat.{ℕ, _^_, _<_}
+use Prim.Native.Nat.{_^_, _<_}
 use borrow.Author.Needs.{needs}
-use Rattle.bitset.specs.Members.{has, _∈_, _∖_}
+use Rattle.bitset.specs.Members.{has, _∖_}
 use Rattle.bitset.proofs.Results.{single-power, without-minus}
-use Rattle.bitset.proofs.Sets.{member-lt, in-drop, drop-none}
+use Rattle.bitset.proofs.Sets.{member-lt, in-drop}
 use Rattle.node_set.specs.Width.{nodeWidth}
-use Rattle.graph.specs.Relevant.{reachIn}
 use Rattle.adjacency.proofs.Reaching.{reached-inside}
+use Rattle.enumeration.proofs.Halves.{hangs-all}
 use Rattle.enumeration.proofs.rest_without.Statement.{statement}
 use Rattle.enumeration.proofs.rest_without.Tie as tie
 
@@ -30,7 +30,7 @@ word : (c : tie.Start) → c .args .rest .0 < 2 ^ nodeWidth
 word c = search needs
 
 returns : tie.Need-returns
-returns c M B table there whole =
+returns c M B table there hangs =
     let one = c .before in
     let rest = one .before in
     let start = rest .before .before .before in
@@ -41,11 +41,10 @@ returns c M B table there whole =
     reached-inside M B (a .rest .0 ∖ 2 ^ a .v) (a .adjacent .now) table (a .sink) _ there (rw (less, from) at (c .reach .ensures))
 
 returns-2 : tie.Need-returns-2
-returns-2 c M B table there whole =
+returns-2 c M B table there hangs =
     let a = c .before .before .args in
     let lacks : has (a .rest .0) (a .v) ≡ false = sym (c .before .contains .ensures) ∙ c .if1 .left in
-    let off : a .v ∈ a .rest .0 → ⊥ = λ m. rw lacks at m in
-    sym (ap (λ (x : ℕ). reachIn M x (a .sink)) (drop-none (a .rest .0) (a .v) off) ∙ whole off)
+    hangs-all M B (a .rest .0) (a .v) (a .sink) (λ m. rw lacks at m) there hangs
 
 pub rest-without-spec : {M : Type 1} → statement M
 rest-without-spec =
