@@ -2,6 +2,7 @@
 pub mod Pairs
 pub mod Spans
 pub mod Split
+pub mod Insertion
 pub mod Sorting
 pub mod Order
 pub mod Mincuts

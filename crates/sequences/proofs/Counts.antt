@@ -85,13 +85,12 @@ module _ {A : Type 0} where
       let (b, n, t) = member-counted is m (rw (← h is) (count-member is l i here)) in
       Memᴰ·cast (only b t) n
 
-  -- To put at i what stands at j, and at j what stood at i, is to permute.
-  pub permutation-swap : (l : List A) (i j : ℕ) (d : A) → i < length l → j < length l
-      → Permutation (set (set l i (getD l j d)) j (getD l i d)) l
-  permutation-swap l i j d h k p =
-      let first = count-set p l i (getD l j d) d h in
-      let second = count-set p (set l i (getD l j d)) j (getD l i d) d (lt-length-set l i (getD l j d) k) in
-      omega (arith, rw (getD-set-from l i j d) at second)
+  -- Whether x is put at i, or at j once what stands there has moved to i, the members are the same. So two that change places are.
+  pub permutation-move : (l : List A) (i j : ℕ) (x d : A) → i < length l → j < length l → Permutation (set (set l i (getD l j d)) j x) (set l i x)
+  permutation-move l i j x d h k p =
+      let moved = count-set p l i (getD l j d) d h in
+      let after = count-set p (set l i (getD l j d)) j x d (lt-length-set l i (getD l j d) k) in
+      omega (arith, rw (getD-set-from l i j d) at after, count-set p l i x d h)
 
 -- A permutation of numbers keeps its members.
 pub permutation-mem : (l m : List ℕ) → Permutation l m → {a : ℕ} → List·Memᴰ a l → List·Memᴰ a m

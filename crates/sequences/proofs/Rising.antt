@@ -1,7 +1,7 @@
 -- Rising lists: an earlier place holds a smaller number, and two with the same members are equal; so are rows that rise.
 -- Assumes nothing.
 use mathlib.Core.Path.{_≡_, refl, sym, ap, ap₂, _∙_}
-use mathlib.Core.List.{List, [], _∷_, Pairwise·nil, Pairwise·cons, Pairwise·of-cons, rel-of-pairwise-cons, List·Memᴰ, List·Memᴰ·head, List·Memᴰ·tail, List·Memᴰ·not-nil, List·Memᴰ·cases-cons}
+use mathlib.Core.List.{List, [], _∷_, Pairwise, Pairwise·nil, Pairwise·cons, Pairwise·of-cons, rel-of-pairwise-cons, List·Memᴰ, List·Memᴰ·head, List·Memᴰ·tail, List·Memᴰ·not-nil, List·Memᴰ·cases-cons}
 use mathlib.Core.Logic.{_⊎_, inl, inr, _↔_, Iff·trans, Iff·symm, ∥∥₁-elim}
 use Prim.Native.Nat.{ℕ, zero, suc, _<_}
 use native.Mathlib.Nat.{not-suc-le-zero, le-of-suc-le-suc, lt-trans}
@@ -46,17 +46,18 @@ rising-places (x ∷ l) r i zero h k = absurd (not-suc-le-zero h)
 rising-places (x ∷ l) r zero (suc j) h k = rel-of-pairwise-cons r ∣ mem-at l j 0 (le-of-suc-le-suc k) ∣₁
 rising-places (x ∷ l) r (suc i) (suc j) h k = rising-places l (Pairwise·of-cons r) i j (le-of-suc-le-suc h) (le-of-suc-le-suc k)
 
--- A list in which an earlier place holds a smaller number rises.
-pub places-rising : (l : List ℕ) → ((i j : ℕ) → i < j → j < length l → getD l i 0 < getD l j 0) → Rising l
-places-rising [] r = Pairwise·nil
-places-rising (x ∷ l) r =
+-- What each place has to all after it, each number has to all after it.
+pub places-pairwise : (R : ℕ → ℕ → Type 0) → ((x y : ℕ) → IsProp (R x y)) → (l : List ℕ)
+    → ((i j : ℕ) → i < j → j < length l → R (getD l i 0) (getD l j 0)) → Pairwise R l
+places-pairwise R prop [] r = Pairwise·nil
+places-pairwise R prop (x ∷ l) r =
     Pairwise·cons
-    (λ y m. ∥∥₁-elim m le-prop (at-mem (λ y. x < y) l (λ j h. r 0 (suc j) (omega arith) (omega arith))))
-    (places-rising l (λ i j h k. r (suc i) (suc j) (omega arith) (omega arith)))
+    (λ y m. ∥∥₁-elim m (prop x y) (at-mem (R x) l (λ j h. r 0 (suc j) (omega arith) (omega arith))))
+    (places-pairwise R prop l (λ i j h k. r (suc i) (suc j) (omega arith) (omega arith)))
 
 -- A table of rising values rises, and its members are the values.
 table-rises : (n : ℕ) (f : ℕ → ℕ) → ((i j : ℕ) → i < j → j < n → f i < f j) → Rising (tabulate n f)
-table-rises n f rises = places-rising (tabulate n f) (λ i j h k.
+table-rises n f rises = places-pairwise _<_ (λ x y. le-prop) (tabulate n f) (λ i j h k.
     let l : j < n = rw (length-tabulate n f) at k in
     rw (getD-tabulate n f i (lt-trans h l), getD-tabulate n f j l) (rises i j h l))
 
