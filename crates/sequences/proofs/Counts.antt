@@ -85,7 +85,7 @@ module _ {A : Type 0} where
       let (b, n, t) = member-counted is m (rw (← h is) (count-member is l i here)) in
       Memᴰ·cast (only b t) n
 
-  -- Whether x is put at i, or at j once what stands there has moved to i, the members are the same. So two that change places are.
+  -- To put x at j, once what stood there has moved to i, is to permute what comes of putting x at i. If x stood at i, the two change places.
   pub permutation-move : (l : List A) (i j : ℕ) (x d : A) → i < length l → j < length l → Permutation (set (set l i (getD l j d)) j x) (set l i x)
   permutation-move l i j x d h k p =
       let moved = count-set p l i (getD l j d) d h in

@@ -1,4 +1,5 @@
--- Rising lists: an earlier place holds a smaller number, and two with the same members are equal; so are rows that rise.
+-- Lists that are related place by place; and rising lists: an earlier place holds a smaller number, and two with the same members are equal;
+-- so are rows that rise.
 -- Assumes nothing.
 use mathlib.Core.Path.{_≡_, refl, sym, ap, ap₂, _∙_}
 use mathlib.Core.List.{List, [], _∷_, Pairwise, Pairwise·nil, Pairwise·cons, Pairwise·of-cons, rel-of-pairwise-cons, List·Memᴰ, List·Memᴰ·head, List·Memᴰ·tail, List·Memᴰ·not-nil, List·Memᴰ·cases-cons}
@@ -46,7 +47,7 @@ rising-places (x ∷ l) r i zero h k = absurd (not-suc-le-zero h)
 rising-places (x ∷ l) r zero (suc j) h k = rel-of-pairwise-cons r ∣ mem-at l j 0 (le-of-suc-le-suc k) ∣₁
 rising-places (x ∷ l) r (suc i) (suc j) h k = rising-places l (Pairwise·of-cons r) i j (le-of-suc-le-suc h) (le-of-suc-le-suc k)
 
--- What each place has to all after it, each number has to all after it.
+-- If what stands at each place is related to what stands at every later one, each number is related to all that come after it.
 pub places-pairwise : (R : ℕ → ℕ → Type 0) → ((x y : ℕ) → IsProp (R x y)) → (l : List ℕ)
     → ((i j : ℕ) → i < j → j < length l → R (getD l i 0) (getD l j 0)) → Pairwise R l
 places-pairwise R prop [] r = Pairwise·nil
