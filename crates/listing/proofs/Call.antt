@@ -8,12 +8,12 @@ use Prim.Native.Nat.{ℕ, _-_, _≤_, _<_}
 use native.Mathlib.Omega.{arith}
 use borrow.Rule.Slice.PartMut.{putMid}
 use lib.ListN.{length, take, length-map}
-use lib.Seq.{sets}
 use Rattle.sequences.specs.Words.{onto}
 use Rattle.network.specs.declared.Network.{Network}
 use Rattle.network.specs.Record.{faultOf, Stored}
 use Rattle.network.proofs.Refusals.{refused-some}
 use Rattle.listing.specs.Sorted.{Sorted}
+use Rattle.listing.specs.Filled.{Filled}
 use Rattle.graph.proofs.Sound.{Sound, accepted-sound}
 use Rattle.branches.specs.Enumeration.{Row, cutsOf, sidesOf, rows}
 use Rattle.listing.specs.declared.Listed.{Listed}
@@ -71,28 +71,31 @@ module _ (N : Network) (cuts sides : List ℕ) where
     sound = accepted-sound N stored ok
 
     -- Fewer rows than the enumeration has are refused with 12.
-    pub answered-outnumbered : length cuts < length (rows N) → Answered N cuts sides (record { refusal = 12; count = 0 }) cuts sides
-    answered-outnumbered h = refused N cuts sides 12 (refusal-outnumbered N cuts sides .1 (ok, paired, rw (mincuts-count N sound) h)) (λ e. omega arith)
+    pub answered-outnumbered : {cuts′ sides′ : List ℕ} {n : ℕ} → Filled (rows N) cuts sides cuts′ sides′ n → length cuts < n
+        → Answered N cuts sides (record { refusal = 12; count = 0 }) cuts′ sides′
+    answered-outnumbered f h =
+        let many : length cuts < length (rows N) = omega (arith, f .count) in
+        rw (f .outnumbered many .0, f .outnumbered many .1)
+        (refused N cuts sides 12 (refusal-outnumbered N cuts sides .1 (ok, paired, rw (mincuts-count N sound) many)) (λ e. omega arith))
 
-    -- Otherwise the rows of the enumeration are stored from the first row on, and the first n are sorted in place.
-    pub answered-complete : (n : ℕ) → n ≡ length (rows N) → n ≤ length cuts
-        → (filled filled′ sorted sorted′ : List ℕ) → filled ≡ sets cuts 0 (cutsOf (rows N)) → filled′ ≡ sets sides 0 (sidesOf (rows N))
-        → Sorted (take (n - 0) filled) (take (n - 0) filled′) sorted sorted′
+    -- Otherwise the rows of the enumeration are written onto those lent, and these n are sorted in place.
+    pub answered-complete : {filled filled′ : List ℕ} {n : ℕ} → Filled (rows N) cuts sides filled filled′ n → n ≤ length cuts
+        → (sorted sorted′ : List ℕ) → Sorted (take (n - 0) filled) (take (n - 0) filled′) sorted sorted′
         → Answered N cuts sides (record { refusal = 0; count = n }) (putMid 0 (n - 0) filled sorted) (putMid 0 (n - 0) filled′ sorted′)
-    answered-complete n count fits filled filled′ sorted sorted′ p q s =
+    answered-complete {filled} {filled′} {n} f fits sorted sorted′ s =
         let l = rows N in
+        let count : n ≡ length l = omega (arith, f .count) in
         let count-cuts : n ≡ length (cutsOf l) = count ∙ sym (length-map l (λ (r : Row). r .0)) in
         let count-sides : n ≡ length (sidesOf l) = count-cuts ∙ rows-paired l in
-        let fits-cuts : length (cutsOf l) ≤ length cuts = rw (← count-cuts) fits in
-        let fits-sides : length (sidesOf l) ≤ length sides = rw (← count-sides, ← paired) fits in
+        let (p, q) = f .enough (rw (← count) fits) in
         let done : Sorted (cutsOf l) (sidesOf l) sorted sorted′ =
-        rw (p, q, onto-first (cutsOf l) cuts fits-cuts n count-cuts, onto-first (sidesOf l) sides fits-sides n count-sides) at s in
+        rw (p, q, onto-first (cutsOf l) cuts n count-cuts, onto-first (sidesOf l) sides n count-sides) at s in
         let whole = completed N cuts sides (refusal-none N cuts sides .1 (ok, paired, rw (mincuts-count N sound, ← count) fits)) in
         rw (
           p,
           q,
-          onto-back (cutsOf l) cuts fits-cuts n count-cuts sorted (done .cuts-length),
-          onto-back (sidesOf l) sides fits-sides n count-sides sorted′ (done .sides-length),
+          onto-back (cutsOf l) cuts n count-cuts sorted (done .cuts-length),
+          onto-back (sidesOf l) sides n count-sides sorted′ (done .sides-length),
           sorted-mincuts N sound sorted sorted′ done,
           sorted-sides N sound sorted sorted′ done,
           count,

@@ -8,8 +8,8 @@ pub mod Order
 pub mod Mincuts
 pub mod Rows
 pub mod Onto
+pub mod Filled
 pub mod Refusals
 pub mod Call
 pub mod Meaning
-pub mod Given
 pub mod Agree

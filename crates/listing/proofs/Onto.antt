@@ -1,28 +1,45 @@
 -- A list stored from the first of the lent rows on, and the rows lent on to be sorted.
 -- Assumes that there are enough rows.
 use mathlib.Core.Path.{_≡_, sym, ap, _∙_}
-use mathlib.Core.List.{List, _++_}
-use Prim.Native.Nat.{ℕ, _-_, _≤_}
+use mathlib.Core.List.{List, _++_, append-assoc}
+use Prim.Native.Nat.{ℕ, suc, _+_, _-_, _≤_, _<_}
 use native.Mathlib.Nat.{zero-add, sub-zero}
+use native.Mathlib.Numerals.{add-one}
+use native.Mathlib.Omega.{arith}
 use borrow.Rule.Slice.PartMut.{putMid}
-use lib.ListN.{length, take, drop}
-use lib.Seq.{sets, sets-eq, take-at, drop-at, length-take-le}
+use lib.ListN.{length, take, drop, set, getD}
+use lib.Seq.{sets, sets-eq, take-at, drop-at, set-at, take-all, take-suc, drop-cons, append-snoc, length-take-le}
 use Rattle.sequences.specs.Words.{onto}
 
-module _ (l lent : List ℕ) (fits : length l ≤ length lent) where
+module _ (l lent : List ℕ) where
   -- To store a list from the first row on is to write it onto the rows.
-  sets-onto : sets lent 0 l ≡ onto l lent
-  sets-onto = sets-eq l lent 0 (rw (zero-add (length l)) fits) ∙ ap (λ (n : ℕ). l ++ drop n lent) (zero-add (length l))
+  pub sets-onto : length l ≤ length lent → sets lent 0 l ≡ onto l lent
+  sets-onto fits = sets-eq l lent 0 (rw (zero-add (length l)) fits) ∙ ap (λ (n : ℕ). l ++ drop n lent) (zero-add (length l))
 
   module _ (n : ℕ) (count : n ≡ length l) where
     -- The rows that are then lent on are the list.
-    pub onto-first : take (n - 0) (sets lent 0 l) ≡ l
-    onto-first = rw (sub-zero n, sets-onto) (take-at l (drop (length l) lent) n (sym count))
+    pub onto-first : take (n - 0) (onto l lent) ≡ l
+    onto-first = rw (sub-zero n) (take-at l (drop (length l) lent) n (sym count))
 
     -- If they come back as another list of the same length, that one is written onto the rows.
-    pub onto-back : (k : List ℕ) → length k ≡ length l → putMid 0 (n - 0) (sets lent 0 l) k ≡ onto k lent
-    onto-back k e = rw (sub-zero n, sets-onto, drop-at l (drop (length l) lent) n (sym count), e)
+    pub onto-back : (k : List ℕ) → length k ≡ length l → putMid 0 (n - 0) (onto l lent) k ≡ onto k lent
+    onto-back k e = rw (sub-zero n, drop-at l (drop (length l) lent) n (sym count), e)
 
--- Of two areas that reach so far, equally many rows are lent on.
-pub lent-alike : (n : ℕ) (a b : List ℕ) → n ≤ length a → n ≤ length b → length (take (n - 0) a) ≡ length (take (n - 0) b)
-lent-alike n a b h k = rw (sub-zero n) (length-take-le n a h ∙ sym (length-take-le n b k))
+-- A list that was stored into the first m rows, lent on alone, stands in front of all.
+pub first-kept : (l lent : List ℕ) (n m : ℕ) → n ≡ length l → n ≤ m → m ≤ length lent → {now : List ℕ} → now ≡ sets (take (m - 0) lent) 0 l
+    → take (n - 0) (putMid 0 (m - 0) lent now) ≡ l
+first-kept l lent n m count h k {now} e =
+    let room : length (take (m - 0) lent) ≡ m = rw (sub-zero m) (length-take-le m lent k) in
+    let fits : length l ≤ length (take (m - 0) lent) = omega arith in
+    rw (e ∙ sets-onto l (take (m - 0) lent) fits, sub-zero n, append-assoc) (take-at l _ n (sym count))
+
+-- ---- rows that are copied one by one
+
+-- After the first i the next is copied.
+pub onto-next : (l lent : List ℕ) (i : ℕ) {now : List ℕ} → now ≡ onto (take i l) lent → i < length l → i < length lent
+    → set now i (getD l i 0) ≡ onto (take (i + 1) l) lent
+onto-next l lent i e h k =
+    let full : length (take i l) ≡ i = length-take-le i l (omega arith) in
+    let more : length (take (suc i) l) ≡ suc i = length-take-le (suc i) l h in
+    rw (e, add-one, more, full, drop-cons lent i 0 k, set-at (take i l) (getD lent i 0) (drop (suc i) lent) (getD l i 0) i full, take-suc l i 0 h)
+    (sym (append-snoc (take i l) (getD l i 0) (drop (suc i) lent)))

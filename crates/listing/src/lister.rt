@@ -11,13 +11,17 @@ use node_set::NodeSet;
 use node_set::NodeWord;
 ghost use mathlib.Core.Path.{_≡_};
 ghost use mathlib.Core.Bool.{true};
-ghost use Prim.Native.Nat.{_+_, _-_, _^_, _≤_, _<_};
-ghost use lib.Dec.{ltb};
+ghost use Prim.Native.Nat.{_-_, _^_, _≤_};
 ghost use lib.ListN.{length};
+ghost use Rattle.sequences.specs.Words.{onto};
 ghost use Rattle.network.specs.Record.{faultOf};
 ghost use Rattle.graph.specs.Relevant.{relevantNodes, relevantEdges};
 ghost use Rattle.branches.specs.Enumeration.{rows};
+ghost use Rattle.listing.specs.Filled.{Filled};
 ghost use Rattle.listing.specs.List.{listedBy, cutRowsAfter, sideRowsAfter, ListMeans};
+
+// As many rows as the list program lends are kept while they are counted: a list that fits there is searched for once.
+const OWN_ROWS: usize = 2048;
 
 // Whether so many rows suffice for every network with so many relevant nodes: they have at most 2 ^ (nodes - 2) mincuts.
 fn always_enough(nodes: u32, lent: usize) -> bool
@@ -33,18 +37,87 @@ fn always_enough(nodes: u32, lent: usize) -> bool
     most <= lent
 }
 
-// Whether the mincuts outnumber the rows. They are counted, up to one more than the rows, with no row lent.
-fn outnumber(network: Network, nodes: NodeSet, edges: EdgeSet, lent: usize) -> bool
-    requires { ⌜ (faultOf network ≡ 0) × (nodes .0 ≡ relevantNodes network) × (edges .0 ≡ relevantEdges network) × (lent + 1 < 2 ^ 64) ⌝ }
-    ensures { λ r. ⌜ r ≡ ltb lent (length (rows network)) ⌝ }
+// Copies cuts that were found, and the sides beside them, onto the first of the lent rows.
+fn copy_rows(found: &[u64], beside: &[NodeWord], cuts: &mut [u64], sides: &mut [NodeWord])
+    requires { ⌜ (length (now found) ≡ length (now beside)) × (length (now found) ≤ length (now cuts)) × (length (now cuts) ≡ length (now sides)) ⌝ }
+    ensures { λ _. ⌜ (now (cuts .exit) ≡ onto (now (found .entry)) (now (cuts .entry)))
+        × (now (sides .exit) ≡ onto (now (beside .entry)) (now (sides .entry))) ⌝ }
 {
-    if always_enough(nodes.size(), lent) {
-        return false;
+    let mut i = 0;
+    while i < found.len() {
+        let cut = found[i];
+        let side = beside[i];
+        cuts[i] = cut;
+        sides[i] = side;
+        i += 1;
     }
-    let mut no_cuts = [0u64; 0];
-    let mut no_sides: [NodeWord; 0] = [0; 0];
-    let count = enumerate(network, nodes, edges, &mut no_cuts, &mut no_sides, lent);
-    lent < count
+}
+
+// Counts the rows of an accepted network, and writes them if they do not outnumber those lent. As many as there is room for are kept in
+// `found` and `beside` while they are counted: if that is all of them, they are copied, and not searched for again.
+fn count_then_fill(
+    network: Network,
+    nodes: NodeSet,
+    edges: EdgeSet,
+    found: &mut [u64],
+    beside: &mut [NodeWord],
+    cuts: &mut [u64],
+    sides: &mut [NodeWord],
+) -> usize
+    requires { ⌜ (faultOf network ≡ 0) × (nodes .0 ≡ relevantNodes network) × (edges .0 ≡ relevantEdges network)
+        × (length (now found) ≡ length (now beside)) × (length (now cuts) ≡ length (now sides)) ⌝ }
+    ensures { λ r. ⌜ Filled (rows network) (now (cuts .entry)) (now (sides .entry)) (now (cuts .exit)) (now (sides .exit)) r ⌝ }
+{
+    let lent = cuts.len();
+    let mut kept = found.len();
+    if lent < kept {
+        kept = lent;
+    }
+    let counted = enumerate(
+        network,
+        nodes,
+        edges,
+        &mut found[0..kept],
+        &mut beside[0..kept],
+        lent,
+    );
+    if lent < counted {
+        return counted;
+    }
+    if kept < counted {
+        return enumerate(network, nodes, edges, cuts, sides, lent);
+    }
+    copy_rows(&found[0..counted], &beside[0..counted], cuts, sides);
+    counted
+}
+
+// Writes the rows of an accepted network if they do not outnumber those lent. Gives their number, at most one more than are lent.
+fn fill(
+    network: Network,
+    nodes: NodeSet,
+    edges: EdgeSet,
+    cuts: &mut [u64],
+    sides: &mut [NodeWord],
+) -> usize
+    requires { ⌜ (faultOf network ≡ 0) × (nodes .0 ≡ relevantNodes network) × (edges .0 ≡ relevantEdges network)
+        × (length (now cuts) ≡ length (now sides)) ⌝ }
+    ensures { λ r. ⌜ Filled (rows network) (now (cuts .entry)) (now (sides .entry)) (now (cuts .exit)) (now (sides .exit)) r ⌝ }
+{
+    let lent = cuts.len();
+    if always_enough(nodes.size(), lent) {
+        return enumerate(network, nodes, edges, cuts, sides, lent);
+    }
+    let mut own_cuts = [0u64; OWN_ROWS];
+    let mut own_sides: [NodeWord; OWN_ROWS] = [0; OWN_ROWS];
+    count_then_fill(
+        network,
+        nodes,
+        edges,
+        &mut own_cuts,
+        &mut own_sides,
+        cuts,
+        sides,
+    )
 }
 
 // Lists all minimal cuts, rising, each beside its near side. The record's first fault, then 11, then 12; on refusal no row changes.
@@ -68,13 +141,13 @@ pub fn list(network: Network, cuts: &mut [u64], sides: &mut [NodeWord]) -> Liste
     }
     let nodes = part.nodes;
     let edges = part.edges;
-    if outnumber(network, nodes, edges, lent) {
+    let count = fill(network, nodes, edges, cuts, sides);
+    if lent < count {
         return Listed {
             refusal: TOO_MANY_CUTS,
             count: 0,
         };
     }
-    let count = enumerate(network, nodes, edges, cuts, sides, lent);
     sort_rows(&mut cuts[0..count], &mut sides[0..count]);
     Listed { refusal: 0, count }
 }
