@@ -2,7 +2,7 @@
 -- Assumes nothing.
 use mathlib.Core.Path.{_≡_, refl, sym, ap, _∙_}
 use mathlib.Core.List.{List}
-use Prim.Native.Nat.{ℕ, _-_, _≤_, _<_}
+use Prim.Native.Nat.{ℕ, _+_, _-_, min, _≤_, _<_}
 use native.Mathlib.Omega.{arith}
 use borrow.Rule.Slice.PartMut.{putMid}
 use lib.ListN.{length, take, length-map}
@@ -13,40 +13,39 @@ use Rattle.listing.specs.Filled.{Filled}
 use Rattle.listing.proofs.Onto.{sets-onto, first-kept}
 
 module _ {l : List Row} {cuts sides : List ℕ} where
-  -- The count exceeds the rows lent: nothing is written.
-  pub filled-none : {found beside found′ beside′ : List ℕ} {r : ℕ} → Put l 0 (length cuts) found beside found′ beside′ r → length cuts < r
-      → Filled l cuts sides cuts sides r
-  filled-none p h = record {
-    count = omega (arith, p .count);
-    enough = λ few. absurd (omega (arith, p .count));
+  -- More rows are counted than are lent: nothing is written.
+  pub filled-none : {r : ℕ} → r ≡ min (length l) (length cuts + 1) → length cuts < r → Filled l cuts sides cuts sides r
+  filled-none count h = record {
+    count = count;
+    enough = λ few. absurd (omega arith);
     outnumbered = λ many. (refl, refl);
   }
 
   -- There are enough rows: all are written straight into them.
   pub filled-straight : {cuts′ sides′ : List ℕ} {r : ℕ} → length l ≤ length cuts → length cuts ≡ length sides
       → Put l 0 (length cuts) cuts sides cuts′ sides′ r → Filled l cuts sides cuts′ sides′ r
-  filled-straight few paired p = record {
-    count = omega (arith, p .count);
+  filled-straight few paired put = record {
+    count = omega (arith, put .count);
     enough = λ _. (
-      p .put-cuts ∙ sets-onto (cutsOf l) cuts (omega (arith, length-map l (λ (x : Row). x .0))),
-      p .put-sides ∙ sets-onto (sidesOf l) sides (omega (arith, length-map l (λ (x : Row). x .1))),
+      put .put-cuts ∙ sets-onto (cutsOf l) cuts (omega (arith, length-map l (λ (x : Row). x .0))),
+      put .put-sides ∙ sets-onto (sidesOf l) sides (omega (arith, length-map l (λ (x : Row). x .1))),
     );
     outnumbered = λ many. absurd (omega arith);
   }
 
-  -- All were kept in the first k rows found, and these are copied.
-  pub filled-copied : (found beside : List ℕ) (k : ℕ) {found′ beside′ cuts′ sides′ : List ℕ} {r : ℕ}
-      → Put l 0 (length cuts) (take (k - 0) found) (take (k - 0) beside) found′ beside′ r
+  -- All that were counted were kept among the first k rows found: they are copied.
+  pub filled-copied : (found beside : List ℕ) (k limit : ℕ) {found′ beside′ cuts′ sides′ : List ℕ} {r : ℕ} → r ≡ min (length l) (length cuts + 1)
+      → Put l 0 limit (take (k - 0) found) (take (k - 0) beside) found′ beside′ r
       → r ≤ k → k ≤ length cuts → k ≤ length found → length found ≡ length beside
       → cuts′ ≡ onto (take (r - 0) (putMid 0 (k - 0) found found′)) cuts
       → sides′ ≡ onto (take (r - 0) (putMid 0 (k - 0) beside beside′)) sides
       → Filled l cuts sides cuts′ sides′ r
-  filled-copied found beside k {found′} {beside′} {cuts′} {sides′} {r} p h few room paired e f =
-      let all : r ≡ length l = omega (arith, p .count) in record {
-        count = omega (arith, p .count);
+  filled-copied found beside k limit {r = r} count put h few room paired copied copied′ =
+      let all : r ≡ length l = omega arith in record {
+        count = count;
         enough = λ _. (
-          e ∙ ap (λ x. onto x cuts) (first-kept (cutsOf l) found r k (all ∙ sym (length-map l (λ (x : Row). x .0))) h room (p .put-cuts)),
-          f ∙ ap (λ x. onto x sides) (first-kept (sidesOf l) beside r k (all ∙ sym (length-map l (λ (x : Row). x .1))) h (omega arith) (p .put-sides)),
+          copied ∙ ap (λ x. onto x cuts) (first-kept (cutsOf l) found r k (all ∙ sym (length-map l (λ (x : Row). x .0))) h room (put .put-cuts)),
+          copied′ ∙ ap (λ x. onto x sides) (first-kept (sidesOf l) beside r k (all ∙ sym (length-map l (λ (x : Row). x .1))) h (omega arith) (put .put-sides)),
         );
-        outnumbered = λ many. absurd (omega (arith, p .count));
+        outnumbered = λ many. absurd (omega arith);
       }

@@ -1,7 +1,8 @@
 -- `lister::count_then_fill` meets its contract: each way out is a way in which rows come to be filled.
 -- Assumes nothing.
+use mathlib.Core.Path.{_≡_}
 use mathlib.Core.Logic.{⊎-elim}
-use Prim.Native.Nat.{_≤_}
+use Prim.Native.Nat.{_+_, min, _≤_}
 use native.Mathlib.Omega.{arith}
 use borrow.Author.Needs.{needs}
 use lib.ListN.{length}
@@ -17,13 +18,14 @@ begin c = c .before .before .before .before .before
 abbrev keeping : tie.After-enumerate → tie.Joined1
 keeping c = c .before .before .before .before
 
--- No more rows are kept than there is room for,
-kept-found : (c : tie.Joined1) → c .if1 .kept ≤ length (begin c .args .found .now)
-kept-found c = ⊎-elim (λ w. omega arith) (λ w. omega arith) (c .if1 .came)
+-- No more rows are kept than there is room for, nor than are lent.
+kept-within : (c : tie.Joined1) → (c .if1 .kept ≤ length (begin c .args .found .now)) × (c .if1 .kept ≤ length (begin c .args .cuts .now))
+kept-within c = ⊎-elim (λ w. (omega arith, omega arith)) (λ w. (omega arith, omega arith)) (c .if1 .came)
 
--- nor more than are lent.
-kept-lent : (c : tie.Joined1) → c .if1 .kept ≤ length (begin c .args .cuts .now)
-kept-lent c = ⊎-elim (λ w. omega arith) (λ w. omega arith) (c .if1 .came)
+-- The rows are counted, up to one more than are lent.
+counted : (c : tie.After-enumerate)
+    → c .enumerate .result ≡ min (length (rows (begin (keeping c) .args .network))) (length (begin (keeping c) .args .cuts .now) + 1)
+counted c = omega (arith, c .enumerate .ensures .count)
 
 sub-enumerate : tie.Need-sub-enumerate
 sub-enumerate c = search needs
@@ -32,7 +34,7 @@ part-enumerate-start : tie.Need-part-enumerate-start
 part-enumerate-start c = search needs
 
 part-enumerate-end : tie.Need-part-enumerate-end
-part-enumerate-end c = kept-found (c .before)
+part-enumerate-end c = let within = kept-within (c .before) in search needs
 
 sub-enumerate-2 : tie.Need-sub-enumerate-2
 sub-enumerate-2 c = search needs
@@ -41,13 +43,10 @@ part-enumerate-start-2 : tie.Need-part-enumerate-start-2
 part-enumerate-start-2 c = search needs
 
 part-enumerate-end-2 : tie.Need-part-enumerate-end-2
-part-enumerate-end-2 c = let within = kept-found (c .before .before) in search needs
+part-enumerate-end-2 c = let within = kept-within (c .before .before) in search needs
 
 enumerate-requires : tie.Need-enumerate-requires
-enumerate-requires c κs =
-    let within = kept-found (c .before .before .before) in
-    let fits = kept-lent (c .before .before .before) in
-    search needs
+enumerate-requires c κs = let within = kept-within (c .before .before .before) in search needs
 
 same-length : tie.Need-same-length
 same-length c = search needs
@@ -56,7 +55,7 @@ same-length-2 : tie.Need-same-length-2
 same-length-2 c = search needs
 
 returns : tie.Need-returns
-returns c = filled-none (c .before .before .before .before .before .enumerate .ensures) (c .if2 .taken)
+returns c = filled-none (counted (c .before .before .before .before .before)) (c .if2 .taken)
 
 enumerate-requires-2 : tie.Need-enumerate-requires-2
 enumerate-requires-2 c κs = search needs
@@ -79,7 +78,7 @@ returns-2 c =
     let few = again .before .before .before .before in
     let all = few .before .before .before .before .before in
     let start = begin (keeping all) in
-    let enough : length (rows (start .args .network)) ≤ length (start .args .cuts .now) = omega (arith, all .enumerate .ensures .count, few .if2 .left) in
+    let enough : length (rows (start .args .network)) ≤ length (start .args .cuts .now) = omega (arith, counted all, few .if2 .left) in
     filled-straight enough (start .pre .4) (again .enumerate2 .ensures)
 
 sub-copy-rows : tie.Need-sub-copy-rows
@@ -89,7 +88,7 @@ part-copy-rows-start : tie.Need-part-copy-rows-start
 part-copy-rows-start c = search needs
 
 part-copy-rows-end : tie.Need-part-copy-rows-end
-part-copy-rows-end c = let within = kept-found (keeping (c .before .before .before .before .before .before .before)) in search needs
+part-copy-rows-end c = let within = kept-within (keeping (c .before .before .before .before .before .before .before)) in search needs
 
 sub-copy-rows-2 : tie.Need-sub-copy-rows-2
 sub-copy-rows-2 c = search needs
@@ -98,10 +97,12 @@ part-copy-rows-start-2 : tie.Need-part-copy-rows-start-2
 part-copy-rows-start-2 c = search needs
 
 part-copy-rows-end-2 : tie.Need-part-copy-rows-end-2
-part-copy-rows-end-2 c = let within = kept-found (keeping (c .before .before .before .before .before .before .before .before .before)) in search needs
+part-copy-rows-end-2 c = let within = kept-within (keeping (c .before .before .before .before .before .before .before .before .before)) in search needs
 
 copy-rows-requires : tie.Need-copy-rows-requires
-copy-rows-requires c κs = search needs
+copy-rows-requires c κs =
+    let within = kept-within (keeping (c .before .before .before .before .before .before .before .before .before .before .before .before)) in
+    search needs
 
 same-length-7 : tie.Need-same-length-7
 same-length-7 c = search needs
@@ -120,8 +121,8 @@ returns-3 c =
     let copy = c .before .before .before .before in
     let few = copy .before .before .before .before .before .before .before in
     let all = few .before .before .before .before .before .before in
-    let start = begin (keeping all) in
-    filled-copied _ _ _ (all .enumerate .ensures) (few .if3 .left) (kept-lent (keeping all)) (kept-found (keeping all)) (start .pre .3)
+    let within = kept-within (keeping all) in
+    filled-copied _ _ _ _ (counted all) (all .enumerate .ensures) (few .if3 .left) (within .1) (within .0) (begin (keeping all) .pre .3)
     (copy .copy-rows .ensures .0) (copy .copy-rows .ensures .1)
 
 pub count-then-fill-spec : {M : Type 1} → statement M
