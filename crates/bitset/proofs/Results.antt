@@ -10,10 +10,10 @@ use borrow.Author.Tests.{lt-ltb}
 use lib.Bits.{bitAnd, bitOr}
 use lib.Dec.{eqb, ltb, ltb→lt, lt→ltb}
 use Rattle.bitset.specs.Members.{has, _∈_, insert, _∖_}
-use Rattle.sequences.proofs.Tests.{T-or}
+use Rattle.sequences.proofs.Tests.{T-or, T-and}
 use Rattle.bitset.proofs.Members.{same-members, has-zero, has-power, has-ones, has-mod, has-and, has-or, has-minus, has-insert, eqb-cases}
 use Rattle.bitset.proofs.Subsets.{and-absorb}
-use Rattle.bitset.proofs.Sets.{in-drop}
+use Rattle.bitset.proofs.Sets.{in-minus, in-drop}
 
 -- The empty set is 0.
 pub empty-zero : (t : ℕ) → ((j : ℕ) → has t j ≡ false) → t ≡ 0
@@ -48,9 +48,17 @@ in-without s k t less j = rw (without-minus s k t less) (in-drop s k j)
 pub difference-minus : (s u t : ℕ) → ((j : ℕ) → has t j ≡ has s j && not (has u j)) → t ≡ s ∖ u
 difference-minus s u t less = same-members t (s ∖ u) (λ j. rw (less j, has-minus s u j))
 
+-- Its members are those that the other set lacks.
+pub in-difference : (s u t : ℕ) → ((j : ℕ) → has t j ≡ has s j && not (has u j)) → (j : ℕ) → (j ∈ t) ↔ ((j ∈ s) × (j ∈ u → ⊥))
+in-difference s u t less j = rw (difference-minus s u t less) (in-minus s u j)
+
 -- The members of both.
 pub intersection-and : (s u t : ℕ) → ((j : ℕ) → has t j ≡ has s j && has u j) → t ≡ bitAnd s u
 intersection-and s u t both = same-members t (bitAnd s u) (λ j. rw (both j, has-and s u j))
+
+-- Its members are those of both.
+pub in-intersection : (s u t : ℕ) → ((j : ℕ) → has t j ≡ has s j && has u j) → (j : ℕ) → (j ∈ t) ↔ ((j ∈ s) × (j ∈ u))
+in-intersection s u t both j = rw (both j) (T-and (has s j) (has u j))
 
 -- The members of either.
 pub union-or : (s u t : ℕ) → ((j : ℕ) → has t j ≡ has s j || has u j) → t ≡ bitOr s u

@@ -12,8 +12,8 @@ use lib.Bits.{bitOr}
 use lib.Dec.{leb}
 use lib.ListN.{getD}
 use Rattle.bitset.specs.Members.{has, insert, _∖_, size, _∈_}
-use Rattle.bitset.proofs.Subsets.{⊆-refl, ⊆-antisym}
-use Rattle.bitset.proofs.Sets.{in-insert, in-single, in-drop, drop-none, same-set, in-or, size-drop}
+use Rattle.bitset.proofs.Subsets.{⊆-refl}
+use Rattle.bitset.proofs.Sets.{in-insert, in-single, in-drop, same-set, in-or, size-drop}
 use Rattle.node_set.specs.Width.{nodeWidth}
 use Rattle.network.specs.declared.Network.{Network}
 use Rattle.graph.specs.Paths.{Joins}
@@ -90,14 +90,6 @@ module _ (M : Network) (B : Bounded M) where
 -- Where the rest is what the sink reaches inside it, all of it hangs on the sink.
 pub whole-hangs : (M : Network) (b : Branch) (v : ℕ) → Whole M b → Hangs M (b .rest .0) v (M .sink)
 whole-hangs M b v whole w m other = rw whole m
-
--- Where v is not in the rest, what the sink reaches without v is all of it.
-pub hangs-all : (M : Network) → Bounded M → (rest v sink : ℕ) → (v ∈ rest → ⊥) → sink ∈ (rest ∖ 2 ^ v) → Hangs M rest v sink
-    → rest ≡ reachIn M (rest ∖ 2 ^ v) sink
-hangs-all M B rest v sink off there hangs =
-    rw (drop-none rest v off)
-    (⊆-antisym rest (reachIn M rest sink) (λ w m. hangs w m (λ e. off (rw e at m)))
-    (reachIn-⊆ M B rest sink (in-drop rest v sink .0 there .0)))
 
 -- ---- a node is left out
 

@@ -1,4 +1,6 @@
 // The enumeration of the source sides (the paper's near sides): a node beside the side joins it, or is left out for good.
+mod rest;
+
 use adjacency::adjacency;
 use branches::Branch;
 use edge_set::EdgeSet;
@@ -7,7 +9,7 @@ use node_set::NODE_WIDTH;
 use node_set::NODES;
 use node_set::NodeSet;
 use node_set::NodeWord;
-use spread::reach;
+use rest::rest_without;
 ghost use mathlib.Core.Path.{_≡_};
 ghost use mathlib.Core.Bool.{_&&_};
 ghost use mathlib.Core.List.{[], _∷_};
@@ -17,13 +19,12 @@ ghost use lib.ListN.{set};
 ghost use Rattle.bitset.specs.Members.{has, _∈_, _⊆_, _∖_};
 ghost use Rattle.node_set.specs.Width.{nodeWidth};
 ghost use Rattle.network.specs.Record.{faultOf, present};
-ghost use Rattle.graph.specs.Reach.{Bounded};
 ghost use Rattle.graph.specs.Cuts.{only};
-ghost use Rattle.graph.specs.Relevant.{reachIn, relevantNodes, relevantEdges};
+ghost use Rattle.graph.specs.Relevant.{relevantNodes, relevantEdges};
 ghost use Rattle.branches.specs.Enumeration.{candidate, leftOut, isOpen, rowOf, rows, blank};
-ghost use Rattle.adjacency.specs.Adjacency.{Adjacency, withMember};
+ghost use Rattle.adjacency.specs.Adjacency.{withMember};
 ghost use Rattle.enumeration.specs.Tables.{Incidence};
-ghost use Rattle.enumeration.specs.Rows.{Hangs, Capacity, Put, JoinedBranch, JoinPut, LeaveOutPut};
+ghost use Rattle.enumeration.specs.Rows.{Capacity, Put, JoinedBranch, JoinPut, LeaveOutPut};
 
 // ---- the edges at each node
 
@@ -57,19 +58,6 @@ fn incidence(network: Network, edges: EdgeSet) -> [u64; NODES]
 }
 
 // ---- the branches
-
-// What the sink reaches once v has joined: as before if it did not reach v.
-fn rest_without(adjacent: &[NodeWord; NODES], rest: NodeSet, v: u32, sink: u32) -> NodeSet
-    requires { ⌜ v < nodeWidth ⌝ }
-    ensures { λ r. ⌜ ((M : Network) → Bounded M → Adjacency M (now (adjacent .entry)) → sink ∈ (rest .0 ∖ 2 ^ v)
-        → Hangs M (rest .0) v sink → r .0 ≡ reachIn M (rest .0 ∖ 2 ^ v) sink) ⌝ }
-{
-    if rest.contains(v) {
-        reach(adjacent, rest.without(v), NodeSet::single(sink))
-    } else {
-        rest
-    }
-}
 
 // The branch with v joined.
 fn joined(

@@ -8,15 +8,14 @@
 use mathlib.Core.Path.{_≡_}
 use mathlib.Core.Bool.{false, _&&_, _||_, not}
 use mathlib.Core.List.{List}
-use mathlib.Core.Logic.{_⊎_, inl, inr, _↔_}
+use mathlib.Core.Logic.{_⊎_, inl, inr, ⊎-map, _↔_, Dec·not-not}
 use Prim.Native.Nat.{ℕ, _<_}
 use denote.Floats.{is-true}
 use lib.ListN.{getD}
-use Rattle.sequences.proofs.Tests.{T-and}
 use Rattle.bitset.specs.Members.{has, _⊆_, _∈_}
 use Rattle.bitset.proofs.Subsets.{⊆-refl, subset-lt, same-test}
-use Rattle.bitset.proofs.Sets.{∈-dec, in-minus, empty-or-member, not-zero}
-use Rattle.bitset.proofs.Results.{difference-minus, in-union}
+use Rattle.bitset.proofs.Sets.{∈-dec, empty-or-member, not-zero}
+use Rattle.bitset.proofs.Results.{in-intersection, in-difference, in-union}
 use Rattle.spread.specs.Spread.{AdjacentTo, ClosedInside, Reached}
 
 -- The nodes of the spread are none but those that must be; of those that are not fresh, all that are adjacent to them inside the set are
@@ -38,9 +37,8 @@ pub finds : (adjacent : List ℕ) (within spread fresh beside inside found : ℕ
     → ((j : ℕ) → has found j ≡ has inside j && not (has spread j))
     → Finds adjacent within spread fresh found
 finds adjacent within spread fresh beside inside found in-beside in-inside in-found w =
-    let both : (w ∈ inside) ↔ ((w ∈ beside) × (w ∈ within)) = rw (in-inside w) (T-and (has beside w) (has within w)) in
-    let new = in-minus inside spread w in
-    rw (difference-minus inside spread found in-found) (
+    let both = in-intersection beside within inside in-inside w in
+    let new = in-difference inside spread found in-found w in (
       λ m. let p = new .0 m in let q = both .0 (p .0) in (in-beside w .0 (q .0), q .1, p .1),
       λ p. new .1 (both .1 (in-beside w .1 (p .0), p .1), p .2),
     )
@@ -55,38 +53,50 @@ module _ (adjacent : List ℕ) (within start : ℕ) where
     least = λ s there closed. there;
   }
 
-  module _ (spread fresh found : ℕ) (s : Spread adjacent within start spread fresh) (new : Finds adjacent within spread fresh found) where
-    -- What is adjacent to the spread inside the set is there or found: to a fresh node by this round, to another by those before.
-    covered : (v w : ℕ) → v ∈ spread → w ∈ getD adjacent v 0 → w ∈ within → (w ∈ spread) ⊎ (w ∈ found)
-    covered v w m i k = go (∈-dec v fresh) (∈-dec w spread)
+  -- A round that looks at some of the fresh nodes.
+  module _ (spread fresh looked found : ℕ) (s : Spread adjacent within start spread fresh) (some : looked ⊆ fresh)
+      (new : Finds adjacent within spread looked found) where
+    -- What is adjacent to the spread inside the set is there or found: to a node that is looked at by this round, to one that is not
+    -- fresh by those before.
+    covered : (v w : ℕ) → v ∈ spread → (v ∈ fresh → v ∈ looked) → w ∈ getD adjacent v 0 → w ∈ within → (w ∈ spread) ⊎ (w ∈ found)
+    covered v w m seen i k = go (∈-dec v fresh) (∈-dec w spread)
       where
         go : Dec (v ∈ fresh) → Dec (w ∈ spread) → (w ∈ spread) ⊎ (w ∈ found)
         go f (yes there) = inl there
-        go (yes f) (no n) = inr (new w .1 ((v, (f, i)), k, n))
+        go (yes f) (no n) = inr (new w .1 ((v, (seen f, i)), k, n))
         go (no f) (no n) = absurd (n (s .done v w m f i k))
 
+    -- It keeps what holds: what it finds is fresh, and so are the fresh nodes that it does not look at.
+    pub spread-on : (next later : ℕ) → ((w : ℕ) → (w ∈ next) ↔ ((w ∈ spread) ⊎ (w ∈ found)))
+        → ((w : ℕ) → (w ∈ later) ↔ (((w ∈ fresh) × (w ∈ looked → ⊥)) ⊎ (w ∈ found))) → Spread adjacent within start next later
+    spread-on next later in-next in-later = record {
+      started = λ w m. in-next w .1 (inl (s .started w m));
+      part = λ w m. in-next w .1 (⊎-map (λ f. s .part w (f .0)) (λ f. f) (in-later w .0 m));
+      done = λ v w m n i k. elim (in-next v .0 m) [
+        | inl there ↦ in-next w .1 (covered v w there (λ f. Dec·not-not (∈-dec v looked) .0 (λ o. n (in-later v .1 (inl (f, o))))) i k)
+        | inr f ↦ absurd (n (in-later v .1 (inr f)))
+      ];
+      least = λ t there closed w m. elim (in-next w .0 m) [
+        | inl i ↦ s .least t there closed w i
+        | inr f ↦
+            let p = new w .0 f in
+            let v = p .0 .0 in
+            closed w (v, (s .least t there closed v (s .part v (some v (p .0 .1 .0))), p .0 .1 .1)) (p .1)
+      ];
+    }
+
+  -- A round that looks at all of them.
+  module _ (spread fresh found : ℕ) (s : Spread adjacent within start spread fresh) (new : Finds adjacent within spread fresh found) where
     module _ (next : ℕ) (grown : (j : ℕ) → has next j ≡ has spread j || has found j) where
       -- The members after the round.
       either : (w : ℕ) → (w ∈ next) ↔ ((w ∈ spread) ⊎ (w ∈ found))
       either = in-union spread found next grown
 
-      -- A round keeps what holds: what it finds is fresh.
+      -- It keeps what holds: what it finds is fresh.
       pub spread-next : Spread adjacent within start next found
-      spread-next = record {
-        started = λ w m. either w .1 (inl (s .started w m));
-        part = λ w m. either w .1 (inr m);
-        done = λ v w m n i k. elim (either v .0 m) [
-          | inl there ↦ either w .1 (covered v w there i k)
-          | inr f ↦ absurd (n f)
-        ];
-        least = λ t there closed w m. elim (either w .0 m) [
-          | inl i ↦ s .least t there closed w i
-          | inr f ↦
-              let p = new w .0 f in
-              let v = p .0 .0 in
-              closed w (v, (s .least t there closed v (s .part v (p .0 .1 .0)), p .0 .1 .1)) (p .1)
-        ];
-      }
+      spread-next =
+          spread-on spread fresh fresh found s (⊆-refl fresh) new next found either
+          (λ w. (λ m. inr m, λ c. elim c [ inl f ↦ absurd (f .1 (f .0)) | inr m ↦ m ]))
 
       -- A round that finds a node makes the set a larger number.
       pub spread-larger : (found ≡ 0 → ⊥) → spread < next
@@ -102,6 +112,6 @@ module _ (adjacent : List ℕ) (within start : ℕ) where
     pub spread-last : found ≡ 0 → Reached adjacent within start spread
     spread-last none = record {
       started = s .started;
-      closed = λ w p k. elim (covered (p .0) w (p .1 .0) (p .1 .1) k) [ inl there ↦ there | inr f ↦ absurd (not-zero w (rw none at f)) ];
+      closed = λ w p k. elim (covered spread fresh fresh found s (⊆-refl fresh) new (p .0) w (p .1 .0) (λ f. f) (p .1 .1) k) [ inl there ↦ there | inr f ↦ absurd (not-zero w (rw none at f)) ];
       least = s .least;
     }
