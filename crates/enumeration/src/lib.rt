@@ -164,8 +164,8 @@ fn can_leave_out(b: Branch, v: u32, n: usize, limit: usize) -> bool
     if limit < n {
         return false;
     }
-    let rest = b.rest;
-    rest.contains(v)
+    let reached = b.rest;
+    reached.contains(v)
 }
 
 // Writes the rows in which v joins from place n on, and gives the place after them. One row past the limit, which no area holds, is enough.
