@@ -71,12 +71,15 @@ module _ (N : Network) (cuts sides : List ℕ) where
     sound = accepted-sound N stored ok
 
     -- Fewer rows than the enumeration has are refused with 12.
-    pub answered-outnumbered : {cuts′ sides′ : List ℕ} {n : ℕ} → Filled (rows N) cuts sides cuts′ sides′ n → length cuts < n
+    pub answered-outnumbered : length cuts < length (rows N) → Answered N cuts sides (record { refusal = 12; count = 0 }) cuts sides
+    answered-outnumbered h = refused N cuts sides 12 (refusal-outnumbered N cuts sides .1 (ok, paired, rw (mincuts-count N sound) h)) (λ e. omega arith)
+
+    -- That is so where more are counted than are lent, and nothing was written.
+    pub answered-unfilled : {cuts′ sides′ : List ℕ} {n : ℕ} → Filled (rows N) cuts sides cuts′ sides′ n → length cuts < n
         → Answered N cuts sides (record { refusal = 12; count = 0 }) cuts′ sides′
-    answered-outnumbered f h =
+    answered-unfilled f h =
         let many : length cuts < length (rows N) = omega (arith, f .count) in
-        rw (f .outnumbered many .0, f .outnumbered many .1)
-        (refused N cuts sides 12 (refusal-outnumbered N cuts sides .1 (ok, paired, rw (mincuts-count N sound) many)) (λ e. omega arith))
+        rw (f .outnumbered many .0, f .outnumbered many .1) (answered-outnumbered many)
 
     -- Otherwise the rows of the enumeration are written onto those lent, and these n are sorted in place.
     pub answered-complete : {filled filled′ : List ℕ} {n : ℕ} → Filled (rows N) cuts sides filled filled′ n → n ≤ length cuts

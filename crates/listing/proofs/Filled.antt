@@ -34,13 +34,13 @@ module _ {l : List Row} {cuts sides : List ℕ} where
   }
 
   -- All that were counted were kept among the first k rows found: they are copied.
-  pub filled-copied : (found beside : List ℕ) (k limit : ℕ) {found′ beside′ cuts′ sides′ : List ℕ} {r : ℕ} → r ≡ min (length l) (length cuts + 1)
+  pub filled-copied : (found beside : List ℕ) (k : ℕ) {found′ beside′ cuts′ sides′ : List ℕ} {limit r : ℕ} → r ≡ min (length l) (length cuts + 1)
       → Put l 0 limit (take (k - 0) found) (take (k - 0) beside) found′ beside′ r
       → r ≤ k → k ≤ length cuts → k ≤ length found → length found ≡ length beside
       → cuts′ ≡ onto (take (r - 0) (putMid 0 (k - 0) found found′)) cuts
       → sides′ ≡ onto (take (r - 0) (putMid 0 (k - 0) beside beside′)) sides
       → Filled l cuts sides cuts′ sides′ r
-  filled-copied found beside k limit {r = r} count put h few room paired copied copied′ =
+  filled-copied found beside k {r = r} count put h few room paired copied copied′ =
       let all : r ≡ length l = omega arith in record {
         count = count;
         enough = λ _. (

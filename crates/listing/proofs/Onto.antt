@@ -1,4 +1,4 @@
--- A list stored from the first of the lent rows on, and the rows lent on to be sorted.
+-- A list written onto the first of the lent rows, stored or copied row by row, and the rows lent on to be sorted.
 -- Assumes that there are enough rows.
 use mathlib.Core.Path.{_≡_, sym, ap, _∙_}
 use mathlib.Core.List.{List, _++_, append-assoc}
@@ -8,7 +8,7 @@ use native.Mathlib.Numerals.{add-one}
 use native.Mathlib.Omega.{arith}
 use borrow.Rule.Slice.PartMut.{putMid}
 use lib.ListN.{length, take, drop, set, getD}
-use lib.Seq.{sets, sets-eq, take-at, drop-at, set-at, take-all, take-suc, drop-cons, append-snoc, length-take-le}
+use lib.Seq.{sets, sets-eq, take-at, drop-at, set-at, take-suc, drop-cons, append-snoc, length-take-le}
 use Rattle.sequences.specs.Words.{onto}
 
 module _ (l lent : List ℕ) where
@@ -25,7 +25,7 @@ module _ (l lent : List ℕ) where
     pub onto-back : (k : List ℕ) → length k ≡ length l → putMid 0 (n - 0) (onto l lent) k ≡ onto k lent
     onto-back k e = rw (sub-zero n, drop-at l (drop (length l) lent) n (sym count), e)
 
--- A list that was stored into the first m rows, lent on alone, stands in front of all.
+-- A list that was stored into the first m rows, lent on alone, stands in front of all rows.
 pub first-kept : (l lent : List ℕ) (n m : ℕ) → n ≡ length l → n ≤ m → m ≤ length lent → {now : List ℕ} → now ≡ sets (take (m - 0) lent) 0 l
     → take (n - 0) (putMid 0 (m - 0) lent now) ≡ l
 first-kept l lent n m count h k {now} e =

@@ -122,7 +122,7 @@ returns-3 c =
     let few = copy .before .before .before .before .before .before .before in
     let all = few .before .before .before .before .before .before in
     let within = kept-within (keeping all) in
-    filled-copied _ _ _ _ (counted all) (all .enumerate .ensures) (few .if3 .left) (within .1) (within .0) (begin (keeping all) .pre .3)
+    filled-copied _ _ _ (counted all) (all .enumerate .ensures) (few .if3 .left) (within .1) (within .0) (begin (keeping all) .pre .3)
     (copy .copy-rows .ensures .0) (copy .copy-rows .ensures .1)
 
 pub count-then-fill-spec : {M : Type 1} → statement M

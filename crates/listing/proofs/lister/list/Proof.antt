@@ -1,10 +1,11 @@
 -- `lister::list` meets its contract: each way out is a law of the call.
 -- Assumes nothing.
 use mathlib.Core.Path.{_≡_, sym, _∙_}
+use native.Mathlib.Omega.{arith}
 use borrow.Author.Needs.{needs}
 use Rattle.network.specs.Record.{faultOf, Stored}
 use Rattle.listing.proofs.Meaning.{answered-means}
-use Rattle.listing.proofs.Call.{answered-faulty, answered-unpaired, answered-outnumbered, answered-complete}
+use Rattle.listing.proofs.Call.{answered-faulty, answered-unpaired, answered-unfilled, answered-complete}
 use Rattle.connectivity.proofs.Answers.{part-refusal, part-nodes, part-edges}
 use Rattle.listing.proofs.lister.list.Statement.{statement}
 use Rattle.listing.proofs.lister.list.Tie as tie
@@ -37,7 +38,7 @@ returns-2 : tie.Need-returns-2
 returns-2 c =
     let part = c .before .before in
     let ok = sym (part-refusal _ _ (part .relevant .ensures .0)) ∙ c .before .if1 .left in
-    answered-means _ (stored (part .before .before .before)) _ _ (answered-unpaired _ _ _ ok (c .if2 .taken))
+    answered-means _ (stored (part .before .before .before)) _ _ (answered-unpaired _ _ _ ok (λ e. omega (arith, c .if2 .taken)))
 
 fill-requires : tie.Need-fill-requires
 fill-requires c κs =
@@ -57,7 +58,7 @@ returns-3 c =
     let filled = c .before .before .before .before .before in
     let i = alike filled in
     let N = stored (begin i) in
-    answered-means _ N _ _ (answered-outnumbered _ _ _ N (accepted i) (i .if2 .left) (filled .fill .ensures) (c .if3 .taken))
+    answered-means _ N _ _ (answered-unfilled _ _ _ N (accepted i) (i .if2 .left) (filled .fill .ensures) (c .if3 .taken))
 
 sub-sort-rows : tie.Need-sub-sort-rows
 sub-sort-rows c = search needs
