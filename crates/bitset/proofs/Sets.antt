@@ -77,7 +77,7 @@ minus-minus s t j m =
     let p = in-minus s (s ∖ t) j .0 m in
     Dec·not-not (∈-dec j t) .0 (λ n. p .1 (in-minus s t j .1 (p .0, n)))
 
--- Of a part of s that is all of it.
+-- It is t, if t is a subset.
 pub minus-part : (s t : ℕ) → t ⊆ s → s ∖ (s ∖ t) ≡ t
 minus-part s t h = ⊆-antisym (s ∖ (s ∖ t)) t (minus-minus s t) (λ j m. in-minus s (s ∖ t) j .1 (h j m, λ n. in-minus s t j .0 n .1 m))
 

@@ -31,8 +31,8 @@ use Rattle.enumeration.specs.Parts.{Together, PartOf}
 
 module _ (adjacent : List ℕ) (back : Mutual adjacent) (within : ℕ) where
   -- Where a set is closed, so is what it leaves.
-  pub rest-closed : (s : ℕ) → ClosedInside adjacent within s → ClosedInside adjacent within (within ∖ s)
-  rest-closed s closed w (v, (m, i)) k =
+  without-closed : (s : ℕ) → ClosedInside adjacent within s → ClosedInside adjacent within (within ∖ s)
+  without-closed s closed w (v, (m, i)) k =
       let p = in-minus within s v .0 m in
       in-minus within s w .1 (k, λ j. p .1 (closed v (w, (j, back v w i)) (p .0)))
 
@@ -45,7 +45,7 @@ module _ (adjacent : List ℕ) (back : Mutual adjacent) (within : ℕ) where
       go (inl none) =
           let apart : start ⊆ (within ∖ s) =
           λ w m. in-minus within s w .1 (inside w m, λ n. not-zero w (rw none at (in-and start s w .1 (m, n)))) in
-          absurd (in-minus within s k .0 (least (within ∖ s) apart (rest-closed s closed) k i) .1 j)
+          absurd (in-minus within s k .0 (least (within ∖ s) apart (without-closed s closed) k i) .1 j)
       go (inr (h, m)) = let q = in-and start s h .0 m in least s (λ w n. rw (one w h n (q .0)) (q .1)) closed
 
 -- ---- the start

@@ -35,7 +35,7 @@ difference-requires c κs = search needs
 difference-requires-2 : tie.Need-difference-requires-2 Inv-loop μ-loop
 difference-requires-2 c κs = search needs
 
--- The targets are words, and so are the nodes of the set.
+-- Targets and set are words.
 targets-word : (c : tie.Start Inv-loop μ-loop) → c .args .targets .0 < 2 ^ nodeWidth
 targets-word c = search needs
 
