@@ -40,7 +40,8 @@
  *
  * Each call takes at most CUTLIST_STACK_BYTES of stack; cutlist_list takes the most, and every other
  * call less than 2 KiB: rust/tests/stack.rs measures it, on halls where the list goes as deep as it
- * can. The list program makes all that it prints on its stack, and needs 896 KiB.
+ * can. Of the list's stack 32 KiB hold rows that it keeps while it counts them. The list program makes
+ * all that it prints on its stack, and needs 896 KiB.
  */
 #ifndef CUTLIST_H
 #define CUTLIST_H
@@ -68,7 +69,7 @@ extern "C" {
 #define CUTLIST_DECIDING_BYTES 521
 
 /* Bytes of stack that suffice for every call. */
-#define CUTLIST_STACK_BYTES 20480
+#define CUTLIST_STACK_BYTES 61440
 
 /* Why a call refused. Numbers have gaps. Bytes are named in hexadecimal. */
 enum cutlist_refusal {

@@ -1,9 +1,9 @@
 //! Links the tests with the static library `capi`, from target/staticlib of the repository or from
-//! the folder that CUTLIST_LIB_DIR names.
+//! the folder that CUTLIST_LIB_DIR names, and tells the benchmark how it was built.
 
 use std::env;
 use std::path::PathBuf;
-use std::process;
+use std::process::{self, Command};
 
 fn main() {
     println!("cargo:rerun-if-changed=build.rs");
@@ -27,4 +27,14 @@ fn main() {
     }
     println!("cargo:rustc-link-search=native={}", folder.display());
     println!("cargo:rustc-link-lib=static=capi");
+
+    let told = |name: &str| env::var(name).unwrap_or_else(|_| panic!("cargo sets {name}"));
+    let version = Command::new(told("RUSTC")).arg("--version").output();
+    let version = String::from_utf8(version.expect("a compiler").stdout).expect("its version");
+    println!("cargo:rustc-env=BUILT_BY={}", version.trim());
+    println!("cargo:rustc-env=BUILT_AT_LEVEL={}", told("OPT_LEVEL"));
+    println!(
+        "cargo:rustc-env=BUILT_FOR={}",
+        told("CARGO_CFG_TARGET_FEATURE")
+    );
 }

@@ -1,34 +1,58 @@
-//! The list call beside the same method in ordinary Rust, and the library's useful part alone, which
-//! each of its lists begins with; then the judging of a minimal cut. All are measured in one run:
-//! medians over repeated calls in turn, the rows cleared before each list.
+//! The list call beside the same method in ordinary Rust, on halls as they stand and with their points
+//! and cables numbered anew for each call; then the cost of a row in short lists and long ones, the
+//! slowest calls found, the useful part, which each list begins with, and the judging of a minimal
+//! cut. All are measured in one run: medians over repeated calls in turn, the rows cleared before each
+//! list. A ratio is the library's time over that of the column before it.
 //!
 //! cargo bench --offline
 //!
-//! An earlier build of the library is measured in the same run if it is there as a shared object,
-//! by its whole path or as seen from this package:
+//! The eleven-point hall alone, about a second:
+//!
+//! cargo bench --offline -- --eleven
+//!
+//! With either, an earlier build of the library is measured in the same run if it is there as a shared
+//! object, by its whole path or as seen from this package:
 //!
 //! gcc -shared -o before.so -Wl,-Bsymbolic -Wl,--whole-archive libcapi.a -Wl,--no-whole-archive
 //! cargo bench --offline -- --before before.so
+//!
+//! It ends with 1 if a limit is exceeded, and with 2 if nothing was measured.
+//!
+//! The halls as plans, and small random ones behind them, for igraph_cuts.py:
+//!
+//! cargo bench --offline -- --plans
 
 use std::env;
 use std::ffi::{c_char, c_int, c_void, CString};
 use std::fs;
 use std::hint::black_box;
 use std::os::unix::ffi::OsStringExt;
-use std::process;
-use std::time::{Duration, Instant};
+use std::panic;
+use std::process::{Command, ExitCode};
+use std::time::Duration;
 
 use cutlist_tests::answers::{Nodes, Verdict};
 use cutlist_tests::halls;
 use cutlist_tests::plans;
 use cutlist_tests::record::Record;
+use cutlist_tests::rng::Rng;
 use cutlist_tests::sys::capi::Build;
+use cutlist_tests::timer::Timer;
 use cutlist_tests::{ordinary, sides, sys};
 
-/// The most rows that are lent.
+/// On the eleven-point hall the library may take so many times what ordinary Rust takes.
+const MOST_RATIO: f64 = 2.0;
+
+/// From a thousand rows to a million the dearest row may cost so many times the cheapest.
+const MOST_SPREAD: f64 = 1.5;
+
+/// The most rows that are lent on a hall of the table.
 const MOST: usize = 1 << 21;
 
-/// The time that one hall may take, and the fewest and most calls for it.
+/// The rows that the list program lends.
+const PROGRAM: usize = 2048;
+
+/// The time that one figure may take, and the fewest and most calls for it.
 const BUDGET: Duration = Duration::from_millis(600);
 const CALLS: (usize, usize) = (5, 101);
 
@@ -49,29 +73,62 @@ impl Lent {
         self.cuts.fill(0);
         self.sides.fill(0);
     }
+
+    /// The rows that were listed.
+    fn listed(&self, count: usize) -> (&[u64], &[Nodes]) {
+        (&self.cuts[..count], &self.sides[..count])
+    }
 }
 
-fn library(build: &Build, record: &Record, lent: &mut Lent) -> usize {
-    let (refusal, count) = sys::list_bare(build, record, &mut lent.cuts, &mut lent.sides);
-    assert_eq!(refusal, 0, "{record:?}");
-    count
+/// What makes lists.
+enum Lister<'a> {
+    Library(&'a Build),
+    Ordinary,
 }
 
-fn plain(record: &Record, lent: &mut Lent) -> usize {
-    ordinary::list(record, &mut lent.cuts, &mut lent.sides).expect("rows that suffice")
-}
-
-/// The library, and behind it the earlier build if one is given.
-fn builds() -> Vec<Build> {
-    // cargo adds an argument of its own.
-    let given: Vec<String> = env::args().skip(1).filter(|arg| arg != "--bench").collect();
-    match given.iter().map(String::as_str).collect::<Vec<_>>()[..] {
-        [] => vec![Build::LINKED],
-        ["--before", file] => vec![Build::LINKED, loaded(file)],
-        _ => {
-            eprintln!("cargo bench --offline [-- --before LIB.so]");
-            process::exit(2);
+impl Lister<'_> {
+    /// The refusal's number, and how many rows were listed.
+    fn list(&self, record: &Record, lent: &mut Lent) -> (u8, usize) {
+        match self {
+            Lister::Library(build) => {
+                sys::list_bare(build, record, &mut lent.cuts, &mut lent.sides)
+            }
+            Lister::Ordinary => match ordinary::list(record, &mut lent.cuts, &mut lent.sides) {
+                Ok(count) => (0, count),
+                Err(refusal) => (refusal, 0),
+            },
         }
+    }
+}
+
+/// The library, ordinary Rust, and the earlier build if there is one.
+fn listers(builds: &[Build]) -> Vec<Lister<'_>> {
+    let mut listers: Vec<Lister> = builds.iter().map(Lister::Library).collect();
+    listers.insert(1, Lister::Ordinary);
+    listers
+}
+
+/// What the command line asks for.
+#[derive(Default)]
+struct Options {
+    eleven: bool,
+    plans: bool,
+    before: Option<String>,
+}
+
+impl Options {
+    /// `None` if it cannot be read.
+    fn of(mut arguments: impl Iterator<Item = String>) -> Option<Options> {
+        let mut options = Options::default();
+        while let Some(name) = arguments.next() {
+            match name.as_str() {
+                "--eleven" if !options.plans => options.eleven = true,
+                "--before" if !options.plans => options.before = Some(arguments.next()?),
+                "--plans" if !options.eleven && options.before.is_none() => options.plans = true,
+                _ => return None,
+            }
+        }
+        Some(options)
     }
 }
 
@@ -101,29 +158,87 @@ fn loaded(file: &str) -> Build {
     unsafe { Build::loaded(place_of) }
 }
 
-/// Medians over so many calls of each, in turn: of each build those of the list and of the useful
-/// part, and that of the list in ordinary Rust.
+/// How the points and cables of a hall are numbered.
+#[derive(Clone, Copy)]
+enum Numbers {
+    AsTheyStand,
+    /// Anew for each call. Where one plan is listed again and again, the processor learns the search
+    /// for up to some thousand rows by heart.
+    Anew,
+}
+
+/// Calls on one hall in turn.
+struct Turns<'a> {
+    listers: &'a [Lister<'a>],
+    hall: &'a Record,
+    numbers: Numbers,
+    rng: Rng,
+    lent: Lent,
+    timer: Timer,
+    times: Vec<Vec<Duration>>,
+}
+
+impl Turns<'_> {
+    fn on<'a>(
+        listers: &'a [Lister],
+        hall: &'a Record,
+        numbers: Numbers,
+        rows: usize,
+        timer: Timer,
+    ) -> Turns<'a> {
+        Turns {
+            listers,
+            hall,
+            numbers,
+            rng: Rng::new(1),
+            lent: Lent::rows(rows),
+            timer,
+            times: vec![Vec::new(); listers.len()],
+        }
+    }
+
+    /// One call of each, all on the same plan. They give the same answer and the same rows.
+    fn take(&mut self) {
+        let plan = match self.numbers {
+            Numbers::AsTheyStand => self.hall.clone(),
+            Numbers::Anew => {
+                let renamed = plans::renamed(&mut self.rng, self.hall);
+                plans::renumbered(&mut self.rng, &renamed)
+            }
+        };
+        let mut expected = None;
+        for (lister, times) in self.listers.iter().zip(&mut self.times) {
+            self.lent.clear();
+            let (answer, time) = self.timer.time(|| lister.list(&plan, &mut self.lent));
+            times.push(time);
+            let (cuts, sides) = self.lent.listed(answer.1);
+            let expected = expected.get_or_insert_with(|| (answer, cuts.to_vec(), sides.to_vec()));
+            assert!(
+                expected.0 == answer && expected.1 == cuts && expected.2 == sides,
+                "{plan:?}"
+            );
+        }
+    }
+
+    fn medians(self) -> Vec<Duration> {
+        self.times.into_iter().map(median).collect()
+    }
+}
+
+/// Medians over so many calls of each.
 fn medians(
-    builds: &[Build],
-    record: &Record,
+    listers: &[Lister],
+    hall: &Record,
+    numbers: Numbers,
     rows: usize,
     calls: usize,
     timer: Timer,
-) -> (Vec<[Duration; 2]>, Duration) {
-    let mut lent = Lent::rows(rows);
-    let mut times = vec![[const { Vec::new() }; 2]; builds.len()];
-    let mut plain_times = Vec::new();
+) -> Vec<Duration> {
+    let mut turns = Turns::on(listers, hall, numbers, rows, timer);
     for _ in 0..calls {
-        for (build, [list, useful]) in builds.iter().zip(&mut times) {
-            lent.clear();
-            list.push(timer.time(|| library(build, record, &mut lent)).1);
-            useful.push(timer.time(|| sys::relevant_bare(build, record)).1);
-        }
-        lent.clear();
-        plain_times.push(timer.time(|| plain(record, &mut lent)).1);
+        turns.take();
     }
-    let medians = times.into_iter().map(|times| times.map(median)).collect();
-    (medians, median(plain_times))
+    turns.medians()
 }
 
 fn median(mut times: Vec<Duration>) -> Duration {
@@ -131,165 +246,358 @@ fn median(mut times: Vec<Duration>) -> Duration {
     times[times.len() / 2]
 }
 
-/// What tells the time of a call. All calls on a hall have the same.
-#[derive(Clone, Copy)]
-enum Timer {
-    Clock,
-    /// The time that this thread had the processor, so that other work on the machine does not count.
-    Processor,
-}
-
-impl Timer {
-    /// For calls of which the slowest takes so long.
-    fn of(slowest: Duration) -> Timer {
-        match slowest < Duration::from_millis(1) {
-            true => Timer::Clock,
-            false => Timer::Processor,
-        }
-    }
-
-    /// What the call gives, and its time.
-    fn time<R>(self, call: impl FnOnce() -> R) -> (R, Duration) {
-        match self {
-            Timer::Clock => {
-                let start = Instant::now();
-                let result = black_box(call());
-                (result, start.elapsed())
-            }
-            Timer::Processor => {
-                let before = processor_time();
-                let result = black_box(call());
-                (result, processor_time() - before)
-            }
-        }
-    }
-}
-
-/// The time that this thread has had the processor.
-fn processor_time() -> Duration {
-    #[repr(C)]
-    struct Time {
-        seconds: i64,
-        nanoseconds: i64,
-    }
-    unsafe extern "C" {
-        fn clock_gettime(clock: i32, time: *mut Time) -> i32;
-    }
-    /// The clock of this thread, on Linux.
-    const THREAD: i32 = 3;
-
-    let mut time = Time {
-        seconds: 0,
-        nanoseconds: 0,
-    };
-    // SAFETY: the pointer is valid, and the struct is laid out as on 64-bit Linux.
-    let failed = unsafe { clock_gettime(THREAD, &mut time) };
-    assert_eq!(failed, 0, "no processor time on this machine");
-    Duration::new(time.seconds as u64, time.nanoseconds as u32)
-}
-
 fn ratio(one: Duration, other: Duration) -> f64 {
     one.as_nanos() as f64 / other.as_nanos() as f64
 }
 
+/// What makes lists, in the order of the times.
+const LISTERS: [&str; 3] = ["library", "ordinary", "before"];
+
+/// The same for the calls that ordinary Rust has not.
+const BUILDS: [&str; 2] = ["library", "before"];
+
+/// The headings over figures, of the library and then of others with the ratio to each.
+fn headings(names: &[&str]) -> String {
+    let others = names[1..]
+        .iter()
+        .map(|name| format!(" {name:>8} {:>5}", "ratio"));
+    format!(" {:>8}", names[0]) + &others.collect::<String>()
+}
+
+/// The unit below each.
+fn units(names: &[&str], unit: &str) -> String {
+    let others = names[1..].iter().map(|_| format!(" {unit:>8} {:>5}", ""));
+    format!(" {unit:>8}") + &others.collect::<String>()
+}
+
+/// The figures of one line, in a unit of so many nanoseconds.
+fn figures(times: &[Duration], unit: usize) -> String {
+    let digits = usize::from(unit > 1);
+    let figure = |time: Duration| {
+        let figure = time.as_nanos() as f64 / unit as f64;
+        format!(" {figure:>8.digits$}")
+    };
+    let others = times[1..]
+        .iter()
+        .map(|&other| format!("{} {:>5.2}", figure(other), ratio(times[0], other)));
+    figure(times[0]) + &others.collect::<String>()
+}
+
 /// All give the same rows; how many, and how long the slowest took.
-fn check(builds: &[Build], record: &Record) -> (usize, Duration) {
-    let mut expected = Lent::rows(MOST);
-    let (count, mut slowest) = Timer::Clock.time(|| plain(record, &mut expected));
-    for build in builds {
-        let mut found = Lent::rows(count);
-        let (listed, time) = Timer::Clock.time(|| library(build, record, &mut found));
-        assert!(
-            listed == count
-                && found.cuts == expected.cuts[..count]
-                && found.sides == expected.sides[..count],
-            "{record:?}"
-        );
-        slowest = slowest.max(time);
-    }
-    (count, slowest)
+fn check(listers: &[Lister], hall: &Record) -> (usize, Duration) {
+    let mut lent = Lent::rows(MOST);
+    let (refusal, count) = Lister::Ordinary.list(hall, &mut lent);
+    assert_eq!(refusal, 0, "{hall:?}");
+    let mut turns = Turns::on(listers, hall, Numbers::AsTheyStand, count, Timer::Clock);
+    turns.take();
+    let slowest = turns.times.into_iter().flatten().max();
+    (count, slowest.expect("a time"))
 }
 
 /// One line for the hall with exactly the rows that it needs lent, and one with so many that no
 /// plan with as many useful points can outnumber them, where that is a different number.
-fn measure(builds: &[Build], name: &str, record: &Record) {
-    let (count, slowest) = check(builds, record);
-    let ample = 1usize << (sides::relevant(record).nodes.count_ones() - 2);
-    let lent = match ample {
+fn measure(listers: &[Lister], name: &str, hall: &Record) {
+    let (count, slowest) = check(listers, hall);
+    let lent = match ample(hall) {
         ample if ample == count || ample > MOST => vec![count],
         ample => vec![count, ample],
     };
     for rows in lent {
-        let lists = slowest * (builds.len() as u32 + 1);
+        let lists = slowest * listers.len() as u32;
         let calls = (BUDGET.as_nanos() / lists.as_nanos().max(1)) as usize;
         let calls = calls.clamp(CALLS.0, CALLS.1) | 1;
-        let (medians, plain) = medians(builds, record, rows, calls, Timer::of(slowest));
-        let [library, useful] = medians[0];
-        let each = |time: Duration| time.as_nanos() as f64 / count as f64;
         print!(
-            "{name:<32} {:>6} {:>6} {count:>8} {rows:>8} {calls:>5} {:>9.1} {:>9.1} {:>9.1} {:>6.2}",
-            record.nodes,
-            record.present.count_ones(),
-            each(library),
-            each(useful),
-            each(plain),
-            ratio(library, plain),
+            "{name:<32} {:>6} {:>6} {count:>7} {rows:>7} {calls:>5}",
+            hall.nodes,
+            hall.present.count_ones(),
         );
-        if let Some(&[before, useful]) = medians.get(1) {
-            print!(
-                " {:>9.1} {:>9.1} {:>12.2}",
-                each(before),
-                each(useful),
-                ratio(library, before)
-            );
+        for numbers in [Numbers::AsTheyStand, Numbers::Anew] {
+            let times = medians(listers, hall, numbers, rows, calls, Timer::of(slowest));
+            print!("{}", figures(&times, count));
         }
         println!();
     }
 }
 
-/// One line for the judging of the first minimal cut that the hall lists.
-fn measure_judging(builds: &[Build], name: &str, record: &Record) {
-    let mut lent = Lent::rows(MOST);
-    plain(record, &mut lent);
-    let cut = lent.cuts[0];
+/// So many rows that no plan with as many useful points has more.
+fn ample(hall: &Record) -> usize {
+    1 << (sides::relevant(hall).nodes.count_ones() - 2)
+}
+
+/// The table for lists.
+fn lists(listers: &[Lister]) {
+    let names = &LISTERS[..listers.len()];
+    let (headings, units) = (headings(names), units(names, "ns/row"));
+    let width = headings.len() - 1;
+    println!("{:<68} {:<width$} numbered anew", "", "as it stands");
+    println!(
+        "{:<32} {:>6} {:>6} {:>7} {:>7} {:>5}{headings}{headings}",
+        "hall", "points", "cables", "rows", "lent", "calls"
+    );
+    println!("{:<68}{units}{}", "", units.trim_end());
+    for (name, hall) in table() {
+        measure(listers, &name, &hall);
+    }
+}
+
+/// What the figures depend on, or why nothing is measured: the library is built for the baseline and
+/// checks no overflow.
+fn circumstances() -> Result<String, String> {
+    const BASELINE: [&str; 3] = ["fxsr", "sse", "sse2"];
+    let more: Vec<&str> = env!("BUILT_FOR")
+        .split(',')
+        .filter(|feature| !BASELINE.contains(feature))
+        .collect();
+    if cfg!(not(target_arch = "x86_64")) || !more.is_empty() {
+        return Err(format!(
+            "Ordinary Rust is built for more than baseline x86-64 ({}), the library is not: nothing is measured.",
+            more.join(", ")
+        ));
+    }
+    if panic::catch_unwind(|| black_box(u8::MAX) + black_box(1)).is_err() {
+        return Err("Ordinary Rust is built with overflow checks: nothing is measured.".into());
+    }
+    let processor = fs::read_to_string("/proc/cpuinfo").ok().and_then(|text| {
+        let line = text.lines().find(|line| line.starts_with("model name"))?;
+        Some(line.split_once(':')?.1.trim().to_string())
+    });
+    let unknown = || "not at hand".to_string();
+    Ok(format!(
+        "processor  {}\n\
+         compiler   {}\n\
+         kit        {}\n\
+         date       {}\n\
+         flags      opt-level {}, no overflow checks, baseline x86-64",
+        processor.unwrap_or_else(unknown),
+        env!("BUILT_BY"),
+        first_line("rt", &["version"]).unwrap_or_else(unknown),
+        first_line("date", &["-u", "+%F"]).unwrap_or_else(unknown),
+        env!("BUILT_AT_LEVEL"),
+    ))
+}
+
+/// The first line that a program prints.
+fn first_line(program: &str, arguments: &[&str]) -> Option<String> {
+    let output = Command::new(program).args(arguments).output().ok()?;
+    let text = String::from_utf8(output.stdout).ok()?;
+    let line = text.lines().next().map(str::to_string);
+    line.filter(|_| output.status.success())
+}
+
+/// The halls of the table.
+fn table() -> Vec<(String, Record)> {
+    let mut table = Vec::new();
+    let mut add = |name: &str, hall: Record| table.push((name.to_string(), hall));
+    add("bridge", halls::bridge());
+    add("line of 32, double", halls::line(32, 2));
+    add("fan of 30", halls::fan(30));
+    add("string of fours", halls::string_of_fours(8));
+    add("circle of 32", halls::circle(32, &[1]));
+    add("ladder of 2 by 16", halls::grid(2, 16));
+    for nodes in [4, 6, 8, 10, 11] {
+        add(&format!("every pair of {nodes}"), halls::complete(nodes));
+    }
+    add("grid of 3 by 8", halls::grid(3, 8));
+    add("grid of 4 by 5", halls::grid(4, 5));
+    add("grid of 4 by 6", halls::grid(4, 6));
+    for (nodes, seed) in DENSE {
+        add(
+            &format!("dense of {nodes}, seed {seed}"),
+            plans::dense(nodes, seed),
+        );
+    }
+    add("grid of 4 by 8", halls::grid(4, 8));
+    for middle in [10, 12, 14, 16, 18, 20] {
+        add(
+            &format!("two hubs with {middle} between"),
+            halls::two_hubs(middle),
+        );
+    }
+
+    // The halls that use all 64 points, the line also with numbers that fall from the server on; then
+    // some of the above spread over all of them.
+    add("line of 64", halls::line(64, 1));
+    add("line of 64, against", halls::turned(halls::line(64, 1)));
+    add("circle of 64", halls::circle(64, &[1]));
+    for (name, hall) in [
+        ("fan of 30", halls::fan(30)),
+        ("ladder of 2 by 16", halls::grid(2, 16)),
+        ("every pair of 11", halls::complete(11)),
+        ("grid of 4 by 8", halls::grid(4, 8)),
+        ("dense of 18, seed 1", plans::dense(18, 1)),
+        ("dense of 24, seed 1", plans::dense(24, 1)),
+        ("two hubs with 20 between", halls::two_hubs(20)),
+    ] {
+        add(&format!("{name}, spread"), halls::spread(&hall));
+    }
+    table
+}
+
+/// Dense random plans of 64 cables, by points and seed.
+const DENSE: [(u8, u64); 5] = [(14, 1), (18, 1), (20, 1), (22, 1), (24, 1)];
+
+/// The eleven-point hall: the library's time over that of ordinary Rust, the larger of the ratios with
+/// as many rows lent as it has and with those that the list program lends.
+fn eleven(listers: &[Lister]) -> f64 {
+    let hall = halls::complete(11);
+    let (count, _) = check(listers, &hall);
+    println!();
+    let ratios = [count, PROGRAM].map(|rows| {
+        let numbers = Numbers::AsTheyStand;
+        let times = medians(listers, &hall, numbers, rows, 101, Timer::Clock);
+        let (library, plain) = (times[0], times[1]);
+        print!(
+            "Eleven points, every pair joined, {count} rows, {rows} lent, median of 101 calls of each: \
+             library {library:?}, ordinary {plain:?}, ratio {:.2}",
+            ratio(library, plain)
+        );
+        if let Some(&before) = times.get(2) {
+            print!("; before {before:?}, ratio {:.2}", ratio(library, before));
+        }
+        println!();
+        ratio(library, plain)
+    });
+    ratios.into_iter().fold(0.0, f64::max)
+}
+
+/// The table of one kind of hall from a thousand rows to a million: by how many times the library's
+/// dearest row costs more than its cheapest. Ample rows are lent, so that every list is made in one
+/// pass: with fewer, only those that are kept while they are counted are. And points and cables are
+/// numbered anew, since the processor learns short lists by heart and long ones not.
+fn flatness(listers: &[Lister]) -> f64 {
+    /// The points in a layer, and the calls in a round: of short lists several, since the first finds
+    /// the caches full of another hall's rows.
+    const LAYERS: [(u8, usize); 7] = [(5, 9), (6, 9), (7, 9), (8, 5), (9, 3), (10, 1), (11, 1)];
+    const ROUNDS: usize = 11;
+
+    let halls = LAYERS.map(|(points, _)| halls::layers(points));
+    let mut turns: Vec<Turns> = halls
+        .iter()
+        .map(|hall| Turns::on(listers, hall, Numbers::Anew, ample(hall), Timer::Processor))
+        .collect();
+    // Hall after hall in each round, so that a slow spell of the machine hits all alike.
+    for _ in 0..ROUNDS {
+        for (turns, (_, calls)) in turns.iter_mut().zip(LAYERS) {
+            for _ in 0..calls {
+                turns.take();
+            }
+        }
+    }
+
+    let names = &LISTERS[..listers.len()];
+    println!();
+    println!(
+        "{:<32} {:>6} {:>6} {:>7} {:>7} {:>5}{}",
+        "one kind of hall, numbered anew",
+        "points",
+        "cables",
+        "rows",
+        "lent",
+        "calls",
+        headings(names)
+    );
+    println!("{:<68}{}", "", units(names, "ns/row").trim_end());
+    let mut costs = vec![Vec::new(); listers.len()];
+    for ((turns, hall), (points, calls)) in turns.into_iter().zip(&halls).zip(LAYERS) {
+        let (count, lent) = (check(listers, hall).0, turns.lent.cuts.len());
+        let times = turns.medians();
+        println!(
+            "{:<32} {:>6} {:>6} {count:>7} {lent:>7} {:>5}{}",
+            format!("two layers of {points}"),
+            hall.nodes,
+            hall.present.count_ones(),
+            calls * ROUNDS,
+            figures(&times, count)
+        );
+        for (time, costs) in times.into_iter().zip(&mut costs) {
+            costs.push(time.as_nanos() as f64 / count as f64);
+        }
+    }
+    let spreads = costs.into_iter().map(|costs| {
+        let dearest = costs.iter().copied().fold(0.0, f64::max);
+        dearest / costs.into_iter().fold(f64::INFINITY, f64::min)
+    });
+    let spreads: Vec<f64> = spreads.collect();
+    let others = spreads[1..].iter().map(|spread| format!(" {spread:>8.2}"));
+    println!(
+        "{:<68} {:>8.2}{}",
+        "dearest row over cheapest",
+        spreads[0],
+        others.collect::<Vec<_>>().join(&" ".repeat(6))
+    );
+    spreads[0]
+}
+
+/// The slowest calls that slowest.rs found: a list of at most as many rows as the list program lends,
+/// and a refusal for want of more.
+fn slowest_calls() -> [(&'static str, Record); 2] {
+    [
+        ("slowest list found", halls::slowest_list()),
+        ("slowest refusal found", halls::slowest_refusal()),
+    ]
+}
+
+/// The table of the slowest calls found: with as many rows lent as the list program lends, and where
+/// that gives a list, with exactly the rows that it needs.
+fn slowest(listers: &[Lister]) {
+    let names = &LISTERS[..listers.len()];
+    println!();
+    println!(
+        "{:<32} {:>6} {:>6} {:>7} {:>7} {:>5}{}",
+        "slowest calls",
+        "points",
+        "cables",
+        "rows",
+        "lent",
+        "calls",
+        headings(names)
+    );
+    println!("{:<68}{}", "", units(names, "us/call").trim_end());
+    for (name, hall) in slowest_calls() {
+        let (_, count) = Lister::Ordinary.list(&hall, &mut Lent::rows(PROGRAM));
+        let mut lent = vec![count, PROGRAM];
+        lent.retain(|&rows| rows > 0);
+        lent.dedup();
+        for rows in lent {
+            let (numbers, calls) = (Numbers::AsTheyStand, CALLS.1);
+            let times = medians(listers, &hall, numbers, rows, calls, Timer::Processor);
+            println!(
+                "{name:<32} {:>6} {:>6} {count:>7} {rows:>7} {calls:>5}{}",
+                hall.nodes,
+                hall.present.count_ones(),
+                figures(&times, 1000)
+            );
+        }
+    }
+}
+
+/// The medians of a call of each build.
+fn median_calls<R>(builds: &[Build], call: impl Fn(&Build) -> R) -> Vec<Duration> {
     let mut times = vec![Vec::new(); builds.len()];
     for _ in 0..CALLS.1 {
         for (build, times) in builds.iter().zip(&mut times) {
-            let (answer, time) = Timer::Clock.time(|| sys::classify_bare(build, record, cut));
-            assert_eq!(answer, (0, Verdict::Minimal as u8), "{record:?}");
-            times.push(time);
+            times.push(Timer::Clock.time(|| call(build)).1);
         }
     }
-    let medians: Vec<Duration> = times.into_iter().map(median).collect();
-    print!(
-        "{name:<32} {:>6} {:>6} {:>8} {:>9}",
-        record.nodes,
-        record.present.count_ones(),
-        cut.count_ones(),
-        medians[0].as_nanos()
-    );
-    if let [library, before] = medians[..] {
-        print!(" {:>9} {:>12.2}", before.as_nanos(), ratio(library, before));
-    }
-    println!();
+    times.into_iter().map(median).collect()
 }
 
-/// The table for judging, of halls with long ways and short ones.
-fn judging(builds: &[Build]) {
-    let before = builds.len() > 1;
+/// The table for the useful part and for the judging of the first minimal cut that a hall lists, of
+/// halls with long ways and short ones.
+fn other_calls(builds: &[Build]) {
+    let names = &BUILDS[..builds.len()];
+    let (headings, units) = (headings(names), units(names, "ns/call"));
+    let width = headings.len() - 1;
     println!();
-    print!(
-        "{:<32} {:>6} {:>6} {:>8} {:>9}",
-        "judging a minimal cut", "points", "cables", "in it", "library"
+    println!(
+        "{:<46} {:<width$} {:>6} judging a minimal cut",
+        "", "useful part", ""
     );
-    if before {
-        print!(" {:>9} {:>12}", "before", "after/before");
-    }
-    print!("\n{:>65}", "ns/call");
-    if before {
-        print!(" {:>9}", "ns/call");
-    }
-    println!();
+    println!(
+        "{:<32} {:>6} {:>6}{headings} {:>6}{headings}",
+        "other calls", "points", "cables", "in it"
+    );
+    println!("{:<46}{units} {:>6}{}", "", "", units.trim_end());
     for (name, hall) in [
         ("bridge", halls::bridge()),
         ("line of 32, double", halls::line(32, 2)),
@@ -300,91 +608,89 @@ fn judging(builds: &[Build]) {
         ("every pair of 11", halls::complete(11)),
         ("grid of 4 by 8", halls::grid(4, 8)),
     ] {
-        measure_judging(builds, name, &hall);
+        let mut lent = Lent::rows(MOST);
+        Lister::Ordinary.list(&hall, &mut lent);
+        let cut = lent.cuts[0];
+        let useful = median_calls(builds, |build| sys::relevant_bare(build, &hall));
+        let judging = median_calls(builds, |build| {
+            let answer = sys::classify_bare(build, &hall, cut);
+            assert_eq!(answer, (0, Verdict::Minimal as u8), "{hall:?}");
+        });
+        println!(
+            "{name:<32} {:>6} {:>6}{} {:>6}{}",
+            hall.nodes,
+            hall.present.count_ones(),
+            figures(&useful, 1),
+            cut.count_ones(),
+            figures(&judging, 1)
+        );
     }
 }
 
-fn main() {
-    let builds = builds();
-    let before = builds.len() > 1;
-    let measure = |name: &str, hall: &Record| measure(&builds, name, hall);
-    print!(
-        "{:<32} {:>6} {:>6} {:>8} {:>8} {:>5} {:>9} {:>9} {:>9} {:>6}",
-        "hall",
-        "points",
-        "cables",
-        "rows",
-        "lent",
-        "calls",
-        "library",
-        "useful",
-        "ordinary",
-        "ratio"
-    );
-    if before {
-        print!(" {:>9} {:>9} {:>12}", "before", "useful", "after/before");
+/// Prints the halls of the table, one without a route and small random ones, which have no name: the
+/// plan's bytes and the name.
+fn print_plans() {
+    let mut named = table();
+    named.push(("no route".into(), halls::loops_alone(4)));
+    named.extend(slowest_calls().map(|(name, hall)| (name.to_string(), hall)));
+    let mut rng = Rng::new(1);
+    let small = (0..500).map(|_| (String::new(), plans::small(&mut rng, 12)));
+    for (name, hall) in named.into_iter().chain(small) {
+        for byte in plans::bytes(&hall) {
+            print!("{byte:02X}");
+        }
+        println!(" {name}");
     }
-    print!("\n{:>80} {:>9} {:>9}", "ns/row", "ns/row", "ns/row");
-    if before {
-        print!(" {:>16} {:>9}", "ns/row", "ns/row");
-    }
-    println!();
-    measure("bridge", &halls::bridge());
-    measure("line of 32, double", &halls::line(32, 2));
-    measure("fan of 30", &halls::fan(30));
-    measure("string of fours", &halls::string_of_fours(8));
-    measure("circle of 32", &halls::circle(32, &[1]));
-    measure("ladder of 2 by 16", &halls::grid(2, 16));
-    for nodes in [4, 6, 8, 10, 11] {
-        measure(&format!("every pair of {nodes}"), &halls::complete(nodes));
-    }
-    measure("grid of 3 by 8", &halls::grid(3, 8));
-    measure("grid of 4 by 5", &halls::grid(4, 5));
-    measure("grid of 4 by 6", &halls::grid(4, 6));
-    measure("two hubs with 16 between", &halls::two_hubs(16));
-    for (nodes, seed) in DENSE {
-        measure(
-            &format!("dense of {nodes}, seed {seed}"),
-            &plans::dense(nodes, seed),
-        );
-    }
-    measure("grid of 4 by 8", &halls::grid(4, 8));
-    measure("two hubs with 20 between", &halls::two_hubs(20));
-
-    // The halls that use all 64 points, the line also with numbers that fall from the server on; then
-    // some of the above spread over all of them.
-    measure("line of 64", &halls::line(64, 1));
-    measure("line of 64, against", &halls::turned(halls::line(64, 1)));
-    measure("circle of 64", &halls::circle(64, &[1]));
-    for (name, hall) in [
-        ("fan of 30", halls::fan(30)),
-        ("ladder of 2 by 16", halls::grid(2, 16)),
-        ("every pair of 11", halls::complete(11)),
-        ("grid of 4 by 8", halls::grid(4, 8)),
-        ("dense of 18, seed 1", plans::dense(18, 1)),
-        ("dense of 24, seed 1", plans::dense(24, 1)),
-        ("two hubs with 20 between", halls::two_hubs(20)),
-    ] {
-        measure(&format!("{name}, spread"), &halls::spread(&hall));
-    }
-
-    let (medians, plain) = medians(&builds, &halls::complete(11), 512, 101, Timer::Clock);
-    let [library, useful] = medians[0];
-    println!();
-    print!(
-        "Eleven points, every pair joined, 512 rows, median of 101 calls of each: library {library:?}, \
-         of that the useful part {useful:?}, ordinary {plain:?}, ratio {:.2}",
-        ratio(library, plain)
-    );
-    if let Some(&[before, useful]) = medians.get(1) {
-        print!(
-            "; before {before:?}, of that {useful:?}, after/before {:.2}",
-            ratio(library, before)
-        );
-    }
-    println!();
-    judging(&builds);
 }
 
-/// Dense random plans of 64 cables, by points and seed.
-const DENSE: [(u8, u64); 5] = [(14, 1), (18, 1), (20, 1), (22, 1), (24, 1)];
+fn main() -> ExitCode {
+    // cargo adds an argument of its own.
+    let arguments = env::args().skip(1).filter(|argument| argument != "--bench");
+    let Some(options) = Options::of(arguments) else {
+        eprintln!("cargo bench --offline [-- [--eleven] [--before LIB.so] | --plans]");
+        return ExitCode::from(2);
+    };
+    if options.plans {
+        print_plans();
+        return ExitCode::SUCCESS;
+    }
+    match circumstances() {
+        Ok(circumstances) => println!("{circumstances}"),
+        Err(complaint) => {
+            eprintln!("{complaint}");
+            return ExitCode::from(2);
+        }
+    }
+    let mut builds = vec![Build::LINKED];
+    builds.extend(options.before.as_deref().map(loaded));
+    let listers = listers(&builds);
+
+    let mut exceeded = Vec::new();
+    if !options.eleven {
+        println!();
+        lists(&listers);
+    }
+    let ratio = eleven(&listers);
+    if ratio > MOST_RATIO {
+        exceeded.push(format!(
+            "On the eleven-point hall the library takes {ratio:.2} times what ordinary Rust takes, more than {MOST_RATIO}."
+        ));
+    }
+    if !options.eleven {
+        let spread = flatness(&listers);
+        if spread > MOST_SPREAD {
+            exceeded.push(format!(
+                "From a thousand rows to a million the dearest row costs {spread:.2} times the cheapest, more than {MOST_SPREAD}."
+            ));
+        }
+        slowest(&listers);
+        other_calls(&builds);
+    }
+    for complaint in &exceeded {
+        eprintln!("{complaint}");
+    }
+    match exceeded.is_empty() {
+        true => ExitCode::SUCCESS,
+        false => ExitCode::FAILURE,
+    }
+}

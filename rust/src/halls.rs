@@ -1,6 +1,7 @@
 //! Halls with a name or a pattern. The server is point 0 unless said otherwise.
 
 use crate::record::{Record, MOST_NODES};
+use crate::reference;
 
 /// A hall whose cables 0, 1, 2 .. join these points in turn.
 pub fn hall(nodes: u8, sink: u8, ends: &[(u8, u8)]) -> Record {
@@ -90,6 +91,19 @@ pub fn two_hubs(middle: u8) -> Record {
     hall(middle + 2, middle + 1, &ends)
 }
 
+/// Two layers of so many points: the server joined to each of the first, each of these to three of the
+/// second, and each of the second to the room.
+pub fn layers(points: u8) -> Record {
+    let (second, sink) = (points + 1, 2 * points + 1);
+    let mut ends = Vec::new();
+    for place in 0..points {
+        ends.push((0, 1 + place));
+        ends.extend((place..place + 3).map(|other| (1 + place, second + other % points)));
+        ends.push((second + place, sink));
+    }
+    hall(2 * points + 2, sink, &ends)
+}
+
 /// A grid of points, server and room in opposite corners.
 pub fn grid(rows: u8, columns: u8) -> Record {
     let at = |row, column| row * columns + column;
@@ -156,3 +170,36 @@ pub fn turned(mut hall: Record) -> Record {
     (hall.source, hall.sink) = (hall.sink, hall.source);
     hall
 }
+
+/// The slowest list that was found among plans with at most 2,048 rows: it has 1,873.
+pub fn slowest_list() -> Record {
+    plan(SLOWEST_LIST)
+}
+
+/// The slowest refusal that was found where 2,048 rows are lent and do not suffice.
+pub fn slowest_refusal() -> Record {
+    plan(SLOWEST_REFUSAL)
+}
+
+/// The hall of a plan in hexadecimal.
+fn plan(digits: &str) -> Record {
+    let byte = |at| u8::from_str_radix(&digits[at..at + 2], 16).expect("two digits");
+    let bytes: Vec<u8> = (0..digits.len()).step_by(2).map(byte).collect();
+    reference::decode(&bytes).expect("a plan")
+}
+
+const SLOWEST_LIST: &str = "\
+    502B53101343001D164301221C430212174303061F43041B264305091043060B09430704084308210A4309161B430A10\
+    26430B101A430C1016430D1015430E1005430F0E1843101012431123214312291343131C254314101F43152A1E431610\
+    1E4317080D4318102243192814431A1002431B101D431C011C431D1028431E1027431F19284320100F4321001A432210\
+    204323180B4324191043251000432602114327110E43281E2043291812432A2619432B0C07432C0506432D1F15432E07\
+    28432F0D0C4330101B43311F244332241D4333272943341A174335142243361024433710254338151A4339010F433A25\
+    2A433B1004433C2023433D101C433E1023433F0A2745";
+
+const SLOWEST_REFUSAL: &str = "\
+    5025530913430009014301171F430207154303041F4304001543051224430609004307090D4308091043090A1B430A09\
+    23430B0904430C161A430D0D08430E2312430F0315431009024311091C4312091E4313070D4314090C43151A1B431609\
+    20431709194318091643191F21431A090B431B0215431C091A431D0908431E090F431F0C0F4320091843210115432209\
+    24432309034324091143251B1C4326091D432709224328032143291916432A2010432B1422432C2220432D1E14432E0F\
+    0E432F09144330241343311305433209124333090E43341E0F4335102343360E184337181943381C114339111D433A21\
+    15433B090A433C1D17433D0917433E0905433F0B1E45";

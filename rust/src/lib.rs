@@ -15,6 +15,7 @@
 //! - `plans`: random records, and damage to plans and records
 //! - `lengths`: the same for the metres of cables
 //! - `tally`: how often each refusal number and each verdict occurred
+//! - `timer`: what tells the time of a call
 //! - `fuzz`: arbitrary bytes as questions for every function
 
 pub mod answers;
@@ -32,3 +33,4 @@ pub mod rng;
 pub mod sides;
 pub mod sys;
 pub mod tally;
+pub mod timer;

@@ -381,6 +381,7 @@ fn long_lists() {
         plans::spread(&mut rng, &halls::grid(4, 5)).0,
         plans::spread(&mut rng, &halls::circle(16, &[1, 3])).0,
         plans::spread(&mut rng, &halls::two_hubs(14)).0,
+        halls::layers(6),
         plans::dense(14, 1),
         plans::spread(&mut rng, &plans::dense(14, 1)).0,
     ] {
@@ -398,6 +399,67 @@ fn long_lists() {
             list_with(&mut rng, &hall, &rows, ample - 1, ample - 1);
         }
     }
+}
+
+/// Lines of so many cables side by side from the server to one point, and from there a line of `behind`
+/// cables to the room: a minimal cut for each way to pick one cable from every line side by side, and
+/// one for each cable behind.
+fn strands(lines: &[u8], behind: u8) -> Record {
+    let meeting = 1 + lines.iter().map(|cables| cables - 1).sum::<u8>();
+    let mut ends = Vec::new();
+    let mut node = 0;
+    for cables in lines {
+        let mut last = 0;
+        for _ in 1..*cables {
+            node += 1;
+            ends.push((last, node));
+            last = node;
+        }
+        ends.push((last, meeting));
+    }
+    ends.extend((0..behind).map(|step| (meeting + step, meeting + step + 1)));
+    halls::hall(meeting + behind + 1, meeting + behind, &ends)
+}
+
+/// Lists about as long as the rows that the call keeps while it counts, with few rows lent, about as
+/// many as it keeps, about as many as are needed, and about as many as need no count.
+#[test]
+fn lists_about_as_long_as_what_is_kept() {
+    const KEPT: usize = 2048;
+    let mut rng = Rng::new(65);
+    let mut tally = Tally::default();
+    let mut counts = Vec::new();
+    let mut halls: Vec<Record> = (0..=4)
+        .map(|behind| strands(&[2, 3, 11, 31], behind))
+        .collect();
+    halls.extend([
+        strands(&[8, 8, 8, 4], 0),
+        halls::two_hubs(11),
+        halls::layers(6),
+        halls::grid(3, 8),
+    ]);
+    for hall in halls {
+        let rows = sides::list_by_growth(&hall, 3_000).expect("not too long a list");
+        counts.push(rows.len());
+        let ample = 1 << (sides::relevant(&hall).nodes.count_ones() - 2).min(16);
+        let (spread, names) = plans::spread(&mut rng, &hall);
+        let spread_rows = spread_rows(&rows, &names);
+        for (hall, rows) in [(&hall, &rows), (&spread, &spread_rows)] {
+            for near in [1, KEPT, rows.len(), ample] {
+                for lent in [near - 1, near, near + 1] {
+                    let number = list_with(&mut rng, hall, rows, lent, lent);
+                    assert_eq!(number, if lent < rows.len() { 12 } else { 0 });
+                    assert_eq!(ordinary_with(&mut rng, hall, lent, lent), number);
+                    tally.count(number);
+                }
+            }
+        }
+    }
+    assert_eq!(
+        counts,
+        [2046, 2047, 2048, 2049, 2050, 2048, 2048, 2435, 1973]
+    );
+    tally.assert_each(&[0, 12], 80);
 }
 
 /// Far more time than any of these calls needs, and far less than a search without bounds takes.
@@ -575,7 +637,19 @@ fn faulty_records_come_before_11_and_12() {
     tally.assert_each(&numbers, 300);
 }
 
-/// The lister that the library is measured beside gives the same rows and refusals.
+/// The lister that the library is measured beside gives the same answer and the same rows. Gives the
+/// refusal number.
+fn ordinary_with(rng: &mut Rng, record: &Record, cuts: usize, sides: usize) -> u8 {
+    let (mut cuts, mut sides) = lent::stale_rows(rng, cuts, sides);
+    let (mut other_cuts, mut other_sides) = (cuts.clone(), sides.clone());
+    let answer = sys::list(record, &mut cuts, &mut sides);
+    let other = ordinary::list(record, &mut other_cuts, &mut other_sides);
+    let other = other.map_or_else(|refusal| (refusal, 0), |count| (0, count));
+    assert_eq!(answer, other, "{record:?}");
+    assert!(cuts == other_cuts && sides == other_sides, "{record:?}");
+    answer.0
+}
+
 #[test]
 fn the_ordinary_lister_agrees() {
     let mut rng = Rng::new(58);
@@ -590,15 +664,7 @@ fn the_ordinary_lister_agrees() {
         }
         let lent = rng.below(60);
         let side_rows = lent + rng.below(8) / 7;
-        let (before_cuts, before_sides) = lent::stale_rows(&mut rng, lent, side_rows);
-        let (mut cuts, mut sides) = (before_cuts.clone(), before_sides.clone());
-        let answer = sys::list(&record, &mut cuts, &mut sides);
-        let (mut other_cuts, mut other_sides) = (before_cuts, before_sides);
-        let other = ordinary::list(&record, &mut other_cuts, &mut other_sides);
-        let other = other.map_or_else(|refusal| (refusal, 0), |count| (0, count));
-        assert_eq!(answer, other, "{record:?}");
-        assert!(cuts == other_cuts && sides == other_sides, "{record:?}");
-        tally.count(answer.0);
+        tally.count(ordinary_with(&mut rng, &record, lent, side_rows));
     }
     tally.assert_each(&[0, 11, 12], 300);
 }

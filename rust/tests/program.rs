@@ -84,7 +84,7 @@ fn expected(input: &[u8]) -> String {
     };
     let mut text = format!("cuts {}\n", rows.len());
     for row in rows {
-        text += &format!("{} | {}\n", numbers(row.cut), numbers(row.side.into()));
+        text += &format!("{} | {}\n", numbers(row.cut), numbers(row.side));
     }
     text
 }

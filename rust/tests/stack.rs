@@ -1,10 +1,11 @@
 //! The stack that the calls need, held against what the header says. Each call is made on a stack of
 //! its own that was painted before: how far down the paint is gone is how much the call took.
 //!
-//! The list takes most, in two places. The calls that grow the near side decide one point each, so at
-//! most 63 of them, all points but the room, stand above each other: a line of 64 points has as many.
-//! The sort splits the rows at cables on which cuts differ, and of these at most 62 are independent,
-//! the points but server and room, so at most 63 of its calls do: a circle of 64 has as many.
+//! The list takes most: for the rows that it keeps while it counts them, and below these in two places.
+//! The calls that grow the near side decide one point each, so at most 63 of them, all points but the
+//! room, stand above each other: a line of 64 points has as many. The sort splits more than 8 rows at
+//! cables on which cuts differ, and of these at most 62 are independent, the points but server and
+//! room; the last three cannot tell more than 8 rows apart, so at most 60 of its calls do.
 
 use std::arch::asm;
 use std::fs;
@@ -34,11 +35,11 @@ fn stack_of<F: FnMut()>(mut call: F) -> usize {
         // SAFETY: it is the pointer that is handed over below.
         unsafe { (*call)() }
     }
-    let mut memory = vec![PAINT; 1 << 14];
+    let mut memory = vec![PAINT; 1 << 15];
     let top = memory.as_mut_ptr_range().end as usize & !15;
 
     // SAFETY: the stack grows down from an aligned end of memory that is lent to nothing else and is
-    // eight times as large as the calls need. The call leaves r12, which holds the former stack, as
+    // four times as large as the calls need. The call leaves r12, which holds the former stack, as
     // it was, and the pointer that it takes is valid.
     unsafe {
         asm!(
