@@ -2,14 +2,16 @@
 """igraph's all_st_cuts beside this library's list call, each cable as two arcs, and whether both list
 the same: each cut with its near side. No part of the gate.
 
-Both are called from Python in turn, and a figure is the median over the calls. It needs Debian's
+Both are called from Python, and a figure is the median over the calls: igraph, the library straight
+after it, when nothing of the library is left in the processor's caches, and the library once more.
+igraph makes Python lists of its rows, the library leaves its own in the memory lent. It needs Debian's
 python3-igraph, the library as a shared object, and the plans that the benchmark prints:
 
 gcc -shared -o cutlist.so -Wl,-Bsymbolic -Wl,--whole-archive libcapi.a -Wl,--no-whole-archive
 cargo bench --offline -- --plans | benches/igraph_cuts.py ./cutlist.so [SECONDS]
 
 A hall on which igraph does not end within so many seconds, otherwise 60, is left out. It ends with 1
-if the lists differ anywhere, and with 2 if it cannot be run.
+if the lists differ anywhere or anything but igraph fails, and with 2 if nothing was compared.
 """
 
 import ctypes
@@ -19,7 +21,11 @@ import statistics
 import sys
 import time
 
-import igraph
+try:
+    import igraph
+except ImportError as missing:
+    print(missing, file=sys.stderr)
+    sys.exit(2)
 
 SLOTS = 64
 
@@ -29,6 +35,9 @@ MOST = 1 << 21
 # The seconds that igraph's calls on a hall may take, but for the first, and the most calls.
 BUDGET = 2
 CALLS = 101
+
+# What is said of a hall once igraph has answered: what fails from there on is no fault of igraph's.
+ANSWERED = "answered"
 
 
 class Plan:
@@ -105,15 +114,12 @@ def compare(plan, rows, listed):
 
 
 def median_times(peer, own, spent):
-    """The median time of each call, in turn, or that of the first call of igraph, which took so long."""
-    peer_times, own_times = [], []
-    for _ in range(min(CALLS, int(BUDGET / spent))):
-        peer_times.append(timed(peer)[1])
-        # Once before: igraph leaves nothing of the library in the processor's caches.
-        own()
-        own_times.append(timed(own)[1])
-    own()
-    return statistics.median(peer_times or [spent]), statistics.median(own_times or [timed(own)[1]])
+    """The median times of igraph, of the library straight after it and of the library once more. A call
+    of igraph that took as long as all may take is the only one."""
+    times = [[timed(call)[1] for call in (peer, own, own)]
+             for _ in range(min(CALLS, int(BUDGET / spent)))]
+    times = times or [[spent, timed(own)[1], timed(own)[1]]]
+    return [statistics.median(column) for column in zip(*times)]
 
 
 def timed(call):
@@ -124,7 +130,7 @@ def timed(call):
 
 
 def of_hall(library, data, is_timed):
-    """First the number of rows; then the times of igraph and of the library, and why the lists are not
+    """First the number of rows; then that igraph has answered; then the times, and why the lists are not
     compared."""
     plan = Plan(library, data)
     cuts, sides, count = plan.lend(MOST if is_timed else 1 << plan.nodes.value)()
@@ -136,9 +142,10 @@ def of_hall(library, data, is_timed):
     # Straight from igraph's core, without the object that Graph.all_st_cuts makes of each cut.
     peer = lambda: igraph.GraphBase.all_st_cuts(graph, source, sink)
     answer, spent = timed(peer)
+    yield ANSWERED
     reason = compare(plan, rows, peer_rows(plan, *answer))
     del answer
-    times = median_times(peer, own, spent) if is_timed else (0, 0)
+    times = median_times(peer, own, spent) if is_timed else [0, 0, 0]
     yield *times, reason
 
 
@@ -149,8 +156,8 @@ def in_time(limit, job, *arguments):
         try:
             for given in job(*arguments):
                 end.send(given)
-        except AssertionError as complaint:
-            end.send(complaint)
+        except Exception as complaint:
+            end.send(repr(complaint))
         end.send(None)
     context = multiprocessing.get_context("fork")
     here, there = context.Pipe(duplex=False)
@@ -164,7 +171,7 @@ def in_time(limit, job, *arguments):
             if given is None:
                 return
             yield given
-        yield f"does not end in {limit:g} s"
+        yield "does not end"
     except EOFError:
         yield "breaks off"
     finally:
@@ -176,34 +183,43 @@ def main():
     if len(sys.argv) not in (2, 3):
         print(__doc__, file=sys.stderr)
         return 2
-    library = ctypes.CDLL(sys.argv[1])
-    for call in library.cutlist_decode, library.cutlist_relevant, library.cutlist_list:
-        call.restype = ctypes.c_uint8
+    try:
+        library = ctypes.CDLL(sys.argv[1])
+        for call in library.cutlist_decode, library.cutlist_relevant, library.cutlist_list:
+            call.restype = ctypes.c_uint8
+    except (OSError, AttributeError) as missing:
+        print(missing, file=sys.stderr)
+        return 2
     limit = float(sys.argv[2]) if len(sys.argv) == 3 else 60
 
     print(f"igraph {igraph.__version__}, Python {platform.python_version()}")
-    print(f"{'hall':<32} {'rows':>8} {'igraph':>9} {'library':>9} {'ratio':>6}")
-    print(f"{'us/row':>51} {'us/row':>9}")
-    faults, same, apart = 0, 0, 0
+    print(f"{'hall':<32} {'rows':>8} {'igraph':>9} {'library':>9} {'ratio':>6} {'again':>9} {'ratio':>6}")
+    print(f"{'us/row':>51} {'us/row':>9} {'us/row':>16}")
+    faults, compared, same, apart = 0, 0, 0, 0
     for line in sys.stdin:
         data, _, name = line.strip().partition(" ")
         match list(in_time(limit, of_hall, library, bytes.fromhex(data), bool(name))):
-            case [rows, (peer, own, None)] if name:
-                text = f"{peer / rows * 1e6:>9.2f} {own / rows * 1e6:>9.3f} {peer / own:>6.0f}"
-            case [rows, (_, _, reason)]:
+            case [rows, _, (peer, first, again, None)] if name:
+                compared += 1
+                text = f"{peer / rows * 1e6:>9.2f}" + "".join(
+                    f" {own / rows * 1e6:>9.3f} {peer / own:>6.0f}" for own in (first, again))
+            case [rows, _, (_, _, _, reason)]:
                 same += not name and not reason
                 apart += not name and bool(reason)
                 text = reason
-            case [rows, str(reason)] if name:
+            case [rows, ("breaks off" | "does not end") as reason] if name:
                 text = f"igraph {reason}"
             case other:
                 faults += 1
                 name, rows, text = name or data, "", f"FAULT: {other[-1]}"
         if name:
             print(f"{name:<32} {rows:>8} {text}", flush=True)
-    print(f"small random plans: the same lists on {same}, no route on {apart}")
+    print(f"The same lists on {compared} halls and {same} small random plans; {apart} more have no route.")
+    if not compared + same + faults:
+        print("No lists were compared.", file=sys.stderr)
+        return 2
     if faults:
-        print(f"The lists differ, or a call failed, on {faults} plans.", file=sys.stderr)
+        print(f"The lists differ, or something else failed, on {faults} plans.", file=sys.stderr)
         return 1
     return 0
 

@@ -16,7 +16,8 @@
 //! gcc -shared -o before.so -Wl,-Bsymbolic -Wl,--whole-archive libcapi.a -Wl,--no-whole-archive
 //! cargo bench --offline -- --before before.so
 //!
-//! It ends with 1 if a limit is exceeded, and with 2 if nothing was measured.
+//! It ends with 1 if a limit is exceeded, with 2 if nothing was measured, and in a panic if two of them
+//! list different rows.
 //!
 //! The halls as plans, and small random ones behind them, for igraph_cuts.py:
 //!
@@ -460,11 +461,10 @@ fn eleven(listers: &[Lister]) -> f64 {
     ratios.into_iter().fold(0.0, f64::max)
 }
 
-/// The table of one kind of hall from a thousand rows to a million: by how many times the library's
-/// dearest row costs more than its cheapest. Ample rows are lent, so that every list is made in one
-/// pass: with fewer, only those that are kept while they are counted are. And points and cables are
-/// numbered anew, since the processor learns short lists by heart and long ones not.
-fn flatness(listers: &[Lister]) -> f64 {
+/// The table of one kind of hall from under a thousand rows to over a million, with so many lent: by how
+/// many times the library's dearest row costs more than its cheapest. Points and cables are numbered
+/// anew, since the processor learns short lists by heart and long ones not.
+fn flatness(listers: &[Lister], rows: impl Fn(&Record) -> usize) -> f64 {
     /// The points in a layer, and the calls in a round: of short lists several, since the first finds
     /// the caches full of another hall's rows.
     const LAYERS: [(u8, usize); 7] = [(5, 9), (6, 9), (7, 9), (8, 5), (9, 3), (10, 1), (11, 1)];
@@ -473,7 +473,7 @@ fn flatness(listers: &[Lister]) -> f64 {
     let halls = LAYERS.map(|(points, _)| halls::layers(points));
     let mut turns: Vec<Turns> = halls
         .iter()
-        .map(|hall| Turns::on(listers, hall, Numbers::Anew, ample(hall), Timer::Processor))
+        .map(|hall| Turns::on(listers, hall, Numbers::Anew, rows(hall), Timer::Processor))
         .collect();
     // Hall after hall in each round, so that a slow spell of the machine hits all alike.
     for _ in 0..ROUNDS {
@@ -677,7 +677,10 @@ fn main() -> ExitCode {
         ));
     }
     if !options.eleven {
-        let spread = flatness(&listers);
+        // With ample rows every list is made in one pass. With exactly the rows that it needs only a list
+        // that is kept while it is counted is: a step between short ones and long ones, and no slope.
+        let spread = flatness(&listers, ample);
+        flatness(&listers, |hall| check(&listers, hall).0);
         if spread > MOST_SPREAD {
             exceeded.push(format!(
                 "From a thousand rows to a million the dearest row costs {spread:.2} times the cheapest, more than {MOST_SPREAD}."

@@ -422,7 +422,7 @@ fn strands(lines: &[u8], behind: u8) -> Record {
 }
 
 /// Lists about as long as the rows that the call keeps while it counts, with few rows lent, about as
-/// many as it keeps, about as many as are needed, and about as many as need no count.
+/// many as it keeps, about as many as are needed, and many more, which for some halls need no count.
 #[test]
 fn lists_about_as_long_as_what_is_kept() {
     const KEPT: usize = 2048;
