@@ -461,6 +461,21 @@ fn eleven(listers: &[Lister]) -> f64 {
     ratios.into_iter().fold(0.0, f64::max)
 }
 
+/// The head of a table: what it is of, what a line says of the hall, and a column for each lister.
+fn head(title: &str, listers: &[Lister], unit: &str) {
+    let names = &LISTERS[..listers.len()];
+    println!(
+        "\n{title:<32} {:>6} {:>6} {:>7} {:>7} {:>5}{}",
+        "points",
+        "cables",
+        "rows",
+        "lent",
+        "calls",
+        headings(names)
+    );
+    println!("{:<68}{}", "", units(names, unit).trim_end());
+}
+
 /// The table of one kind of hall from under a thousand rows to over a million, with so many lent: by how
 /// many times the library's dearest row costs more than its cheapest. Points and cables are numbered
 /// anew, since the processor learns short lists by heart and long ones not.
@@ -484,19 +499,7 @@ fn flatness(listers: &[Lister], rows: impl Fn(&Record) -> usize) -> f64 {
         }
     }
 
-    let names = &LISTERS[..listers.len()];
-    println!();
-    println!(
-        "{:<32} {:>6} {:>6} {:>7} {:>7} {:>5}{}",
-        "one kind of hall, numbered anew",
-        "points",
-        "cables",
-        "rows",
-        "lent",
-        "calls",
-        headings(names)
-    );
-    println!("{:<68}{}", "", units(names, "ns/row").trim_end());
+    head("one kind of hall, numbered anew", listers, "ns/row");
     let mut costs = vec![Vec::new(); listers.len()];
     for ((turns, hall), (points, calls)) in turns.into_iter().zip(&halls).zip(LAYERS) {
         let (count, lent) = (check(listers, hall).0, turns.lent.cuts.len());
@@ -540,19 +543,7 @@ fn slowest_calls() -> [(&'static str, Record); 2] {
 /// The table of the slowest calls found: with as many rows lent as the list program lends, and where
 /// that gives a list, with exactly the rows that it needs.
 fn slowest(listers: &[Lister]) {
-    let names = &LISTERS[..listers.len()];
-    println!();
-    println!(
-        "{:<32} {:>6} {:>6} {:>7} {:>7} {:>5}{}",
-        "slowest calls",
-        "points",
-        "cables",
-        "rows",
-        "lent",
-        "calls",
-        headings(names)
-    );
-    println!("{:<68}{}", "", units(names, "us/call").trim_end());
+    head("slowest calls", listers, "us/call");
     for (name, hall) in slowest_calls() {
         let (_, count) = Lister::Ordinary.list(&hall, &mut Lent::rows(PROGRAM));
         let mut lent = vec![count, PROGRAM];
