@@ -12,7 +12,7 @@ use Rattle.sequences.specs.Words.{onto}
 use Rattle.network.specs.declared.Network.{Network}
 use Rattle.network.specs.Record.{faultOf, Stored}
 use Rattle.network.proofs.Refusals.{refused-some}
-use Rattle.listing.specs.Sorted.{Sorted}
+use Rattle.sorting.specs.Sorted.{Sorted}
 use Rattle.listing.specs.Filled.{Filled}
 use Rattle.graph.proofs.Sound.{Sound, accepted-sound}
 use Rattle.branches.specs.Enumeration.{Row, cutsOf, sidesOf, rows}

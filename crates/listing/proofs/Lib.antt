@@ -1,10 +1,4 @@
--- The list, in reading order: rows and their order, what the complete list is, the call.
-pub mod Pairs
-pub mod Spans
-pub mod Split
-pub mod Insertion
-pub mod Sorting
-pub mod Order
+-- The list, in reading order: what the complete list is, the rows, the call.
 pub mod Mincuts
 pub mod Rows
 pub mod Onto

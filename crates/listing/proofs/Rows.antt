@@ -10,8 +10,8 @@ use lib.ListN.{length, getD, length-map}
 use lib.Seq.{ext-getD}
 use Rattle.sequences.proofs.Places.{getD-map, perm-length}
 use Rattle.network.specs.declared.Network.{Network}
-use Rattle.listing.specs.Sorted.{Sorted}
-use Rattle.listing.proofs.Order.{sorted-unique, sorted-beside}
+use Rattle.sorting.specs.Sorted.{Sorted}
+use Rattle.sorting.proofs.Order.{sorted-unique, sorted-beside}
 use Rattle.graph.specs.Relevant.{sourceSideOf}
 use Rattle.graph.proofs.Sound.{Sound}
 use Rattle.branches.specs.Enumeration.{Row, cutsOf, sidesOf, rows}

@@ -1,6 +1,5 @@
 // The complete list of a network's mincuts, rising, each beside its source side, in lent rows.
 mod lister;
-mod sort;
 
 pub use lister::list;
 

@@ -1,6 +1,5 @@
 // The list call: the relevant part, a count of its rows where they might not suffice, the rows, and their order.
 use crate::Listed;
-use crate::sort::sort_rows;
 use edge_set::EdgeSet;
 use enumeration::enumerate;
 use network::Network;
@@ -9,6 +8,7 @@ use network::refusal::TOO_MANY_CUTS;
 use node_set::NODE_WIDTH;
 use node_set::NodeSet;
 use node_set::NodeWord;
+use sorting::sort_rows;
 ghost use mathlib.Core.Path.{_≡_};
 ghost use mathlib.Core.Bool.{true};
 ghost use Prim.Native.Nat.{_-_, _^_, _≤_};
