@@ -13,13 +13,13 @@ use Rattle.network.specs.declared.Network.{Network}
 use Rattle.network.specs.Record.{faultOf, Stored}
 use Rattle.network.proofs.Refusals.{refused-some}
 use Rattle.sorting.specs.Sorted.{Sorted}
-use Rattle.listing.specs.Filled.{Filled}
+use Rattle.filling.specs.Filled.{Filled}
 use Rattle.graph.proofs.Sound.{Sound, accepted-sound}
 use Rattle.branches.specs.Enumeration.{Row, cutsOf, sidesOf, rows}
 use Rattle.listing.specs.declared.Listed.{Listed}
 use Rattle.listing.specs.List.{mincuts, sourceSides, listRefusal, listedBy, cutRowsAfter, sideRowsAfter}
 use Rattle.listing.proofs.Rows.{rows-paired, mincuts-count, sorted-mincuts, sorted-sides}
-use Rattle.listing.proofs.Onto.{onto-first, onto-back}
+use Rattle.listing.proofs.LentOn.{onto-first, onto-back}
 use Rattle.listing.proofs.Refusals.{refusal-faulty, refusal-unpaired, refusal-outnumbered, refusal-none}
 
 -- The answer and the rows left are those of the call.

@@ -1,3 +1,2 @@
 -- The definitions that the contracts of `listing` cite.
 pub mod List
-pub mod Filled

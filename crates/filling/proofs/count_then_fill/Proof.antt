@@ -1,4 +1,4 @@
--- `lister::count_then_fill` meets its contract: each way out is a way in which rows come to be filled.
+-- `count_then_fill` meets its contract: each way out is a way in which rows come to be filled.
 -- Assumes nothing.
 use mathlib.Core.Path.{_≡_}
 use mathlib.Core.Logic.{⊎-elim}
@@ -7,9 +7,9 @@ use native.Mathlib.Omega.{arith}
 use borrow.Author.Needs.{needs}
 use lib.ListN.{length}
 use Rattle.branches.specs.Enumeration.{rows}
-use Rattle.listing.proofs.Filled.{filled-none, filled-straight, filled-copied}
-use Rattle.listing.proofs.lister.count_then_fill.Statement.{statement}
-use Rattle.listing.proofs.lister.count_then_fill.Tie as tie
+use Rattle.filling.proofs.Filled.{filled-none, filled-straight, filled-copied}
+use Rattle.filling.proofs.count_then_fill.Statement.{statement}
+use Rattle.filling.proofs.count_then_fill.Tie as tie
 
 -- The start, seen from where it is known how many rows are kept, and that place, seen from where they are counted.
 abbrev begin : tie.Joined1 → tie.Start

@@ -1,4 +1,4 @@
--- `lister::copy_rows` meets its contract. The loop's invariant: the rows passed are copied. The measure is what is left of them.
+-- `copy_rows` meets its contract. The loop's invariant: the rows passed are copied. The measure is what is left of them.
 -- Assumes nothing.
 use mathlib.Core.Path.{_≡_, _∙_}
 use mathlib.Core.List.{List}
@@ -8,9 +8,9 @@ use lib.ListN.{length, take, set, getD, length-set}
 use lib.Seq.{take-all}
 use borrow.Author.Needs.{needs}
 use Rattle.sequences.specs.Words.{onto}
-use Rattle.listing.proofs.Onto.{onto-next}
-use Rattle.listing.proofs.lister.copy_rows.Statement.{statement}
-use Rattle.listing.proofs.lister.copy_rows.Tie as tie
+use Rattle.filling.proofs.Onto.{onto-next}
+use Rattle.filling.proofs.copy_rows.Statement.{statement}
+use Rattle.filling.proofs.copy_rows.Tie as tie
 
 -- What holds at each turn: of both areas the first i rows are copied.
 record Turn (found lent now : List ℕ) (i : ℕ) : Type 0 where

@@ -1,4 +1,4 @@
--- `lister::always_enough` meets its contract: the shift is the power.
+-- `always_enough` meets its contract: the shift is the power.
 -- Assumes nothing.
 use mathlib.Core.Bool.{false≢true}
 use mathlib.Core.Path.{_≡_, _∙_}
@@ -9,8 +9,8 @@ use lib.Dec.{lit<}
 use lib.Pow.{shl-exact}
 use borrow.Author.Tests.{leb-true}
 use borrow.Author.Needs.{needs}
-use Rattle.listing.proofs.lister.always_enough.Statement.{statement}
-use Rattle.listing.proofs.lister.always_enough.Tie as tie
+use Rattle.filling.proofs.always_enough.Statement.{statement}
+use Rattle.filling.proofs.always_enough.Tie as tie
 
 returns : tie.Need-returns
 returns c = λ e. absurd (false≢true e)

@@ -1,4 +1,4 @@
--- A list written onto the first of the lent rows, stored or copied row by row, and the rows lent on to be sorted.
+-- A list written onto the first of the lent rows, stored or copied row by row.
 -- Assumes that there are enough rows.
 use mathlib.Core.Path.{_≡_, sym, ap, _∙_}
 use mathlib.Core.List.{List, _++_, append-assoc}
@@ -8,22 +8,12 @@ use native.Mathlib.Numerals.{add-one}
 use native.Mathlib.Omega.{arith}
 use borrow.Rule.Slice.PartMut.{putMid}
 use lib.ListN.{length, take, drop, set, getD}
-use lib.Seq.{sets, sets-eq, take-at, drop-at, set-at, take-suc, drop-cons, append-snoc, length-take-le}
+use lib.Seq.{sets, sets-eq, take-at, set-at, take-suc, drop-cons, append-snoc, length-take-le}
 use Rattle.sequences.specs.Words.{onto}
 
-module _ (l lent : List ℕ) where
-  -- To store a list from the first row on is to write it onto the rows.
-  pub sets-onto : length l ≤ length lent → sets lent 0 l ≡ onto l lent
-  sets-onto fits = sets-eq l lent 0 (rw (zero-add (length l)) fits) ∙ ap (λ (n : ℕ). l ++ drop n lent) (zero-add (length l))
-
-  module _ (n : ℕ) (count : n ≡ length l) where
-    -- The rows that are then lent on are the list.
-    pub onto-first : take (n - 0) (onto l lent) ≡ l
-    onto-first = rw (sub-zero n) (take-at l (drop (length l) lent) n (sym count))
-
-    -- If they come back as another list of the same length, that one is written onto the rows.
-    pub onto-back : (k : List ℕ) → length k ≡ length l → putMid 0 (n - 0) (onto l lent) k ≡ onto k lent
-    onto-back k e = rw (sub-zero n, drop-at l (drop (length l) lent) n (sym count), e)
+-- To store a list from the first row on is to write it onto the rows.
+pub sets-onto : (l lent : List ℕ) → length l ≤ length lent → sets lent 0 l ≡ onto l lent
+sets-onto l lent fits = sets-eq l lent 0 (rw (zero-add (length l)) fits) ∙ ap (λ (n : ℕ). l ++ drop n lent) (zero-add (length l))
 
 -- A list that was stored into the first m rows, lent on alone, stands in front of all rows.
 pub first-kept : (l lent : List ℕ) (n m : ℕ) → n ≡ length l → n ≤ m → m ≤ length lent → {now : List ℕ} → now ≡ sets (take (m - 0) lent) 0 l

@@ -9,8 +9,8 @@ use lib.ListN.{length, take, length-map}
 use Rattle.sequences.specs.Words.{onto}
 use Rattle.branches.specs.Enumeration.{Row, cutsOf, sidesOf}
 use Rattle.enumeration.specs.Rows.{Put}
-use Rattle.listing.specs.Filled.{Filled}
-use Rattle.listing.proofs.Onto.{sets-onto, first-kept}
+use Rattle.filling.specs.Filled.{Filled}
+use Rattle.filling.proofs.Onto.{sets-onto, first-kept}
 
 module _ {l : List Row} {cuts sides : List ℕ} where
   -- More rows are counted than are lent: nothing is written.

@@ -1,4 +1,4 @@
--- `lister::fill` meets its contract: by the bound on the rows, or by their count.
+-- `fill` meets its contract: by the bound on the rows, or by their count.
 -- Assumes nothing.
 use Prim.Native.Nat.{_-_, _^_, _≤_}
 use native.Mathlib.Nat.{le-trans}
@@ -9,9 +9,9 @@ use Rattle.node_set.specs.Width.{nodeWidth}
 use Rattle.network.specs.Record.{Stored}
 use Rattle.graph.proofs.Sound.{accepted-sound}
 use Rattle.branches.proofs.Complete.{rows-at-most}
-use Rattle.listing.proofs.Filled.{filled-straight}
-use Rattle.listing.proofs.lister.fill.Statement.{statement}
-use Rattle.listing.proofs.lister.fill.Tie as tie
+use Rattle.filling.proofs.Filled.{filled-straight}
+use Rattle.filling.proofs.fill.Statement.{statement}
+use Rattle.filling.proofs.fill.Tie as tie
 
 -- What the types say of the record.
 stored : (c : tie.Start) → Stored (c .args .network)

@@ -1,0 +1,2 @@
+-- The definitions that the contracts of `filling` cite.
+pub mod Filled
