@@ -1,3 +1,3 @@
--- The definitions that the contracts of `enumeration` and `listing` cite.
+-- The definitions that the contracts of `enumeration` and `filling` cite.
 pub mod Enumeration
 pub mod Lists
