@@ -7,8 +7,8 @@
 --   Judged N c r v       judging the set c in N gives the refusal r and the verdict v, by its number
 --   JudgedMeans N c r v  what the refusal r and the verdict v on c mean
 --   Total N c r m        adding up the metres of the set c in N gives the refusal r and the total m
---   Listing N cuts sides r n cuts′ sides′     listing N into rows that held `cuts` and `sides` gives the refusal r and the count n, and
---                        leaves cuts′ and sides′ in them
+--
+-- Of the list call this is `Listing` (listing, List).
 use mathlib.Core.List.{List}
 use mathlib.Core.Logic.{_↔_}
 use mathlib.Core.Path.{_≡_}
@@ -19,7 +19,6 @@ use Rattle.format.specs.Format.{decodeOf, encodedBy, bytesAfter}
 use Rattle.graph.specs.Cuts.{Cut, Mincut}
 use Rattle.connectivity.specs.Answers.{relevantOf, verdictOf, numbersOf}
 use Rattle.lengths.specs.Lengths.{totalOf}
-use Rattle.listing.specs.List.{listedBy, cutRowsAfter, sideRowsAfter}
 
 pub record Read (s : List ℕ) (r : ℕ) (N : Network) : Type 0 where
   pub refusal : r ≡ decodeOf s .refusal
@@ -49,9 +48,3 @@ pub record JudgedMeans (N : Network) (c r v : ℕ) : Type 0 where
 pub record Total (N : Network) (c r m : ℕ) : Type 0 where
   pub refusal : r ≡ totalOf N c .refusal
   pub metres : m ≡ totalOf N c .metres
-
-pub record Listing (N : Network) (cuts sides : List ℕ) (r n : ℕ) (cuts′ sides′ : List ℕ) : Type 0 where
-  pub refusal : r ≡ listedBy N cuts sides .refusal
-  pub count : n ≡ listedBy N cuts sides .count
-  pub cut-rows : cuts′ ≡ cutRowsAfter N cuts sides
-  pub side-rows : sides′ ≡ sideRowsAfter N cuts sides

@@ -12,8 +12,8 @@ ghost use Rattle.widths.specs.Widths.{widthsOf};
 ghost use Rattle.format.specs.Meaning.{ReadMeans, WrittenMeans};
 ghost use Rattle.connectivity.specs.Answers.{PartMeans};
 ghost use Rattle.lengths.specs.Lengths.{TotalMeans};
-ghost use Rattle.listing.specs.List.{ListMeans};
-ghost use Rattle.capi.specs.Fields.{Read, Written, Found, Judged, JudgedMeans, Total, Listing};
+ghost use Rattle.listing.specs.List.{Listing, ListMeans};
+ghost use Rattle.capi.specs.Fields.{Read, Written, Found, Judged, JudgedMeans, Total};
 
 // Reads a plan. Gives the refusal's number, 0 if there is none, and fills in the record, all zero on refusal.
 #[no_mangle]
