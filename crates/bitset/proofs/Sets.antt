@@ -81,6 +81,31 @@ minus-minus s t j m =
 pub minus-part : (s t : ℕ) → t ⊆ s → s ∖ (s ∖ t) ≡ t
 minus-part s t h = ⊆-antisym (s ∖ (s ∖ t)) t (minus-minus s t) (λ j m. in-minus s (s ∖ t) j .1 (h j m, λ n. in-minus s t j .0 n .1 m))
 
+-- A member of t is one of s or one of what t has more.
+pub in-or-minus : (s t k : ℕ) → k ∈ t → (k ∈ s) ⊎ (k ∈ (t ∖ s))
+in-or-minus s t k m = go (∈-dec k s)
+  where
+    go : Dec (k ∈ s) → (k ∈ s) ⊎ (k ∈ (t ∖ s))
+    go (yes i) = inl i
+    go (no n) = inr (in-minus t s k .1 (m, n))
+
+-- What the last of three growing sets has more than the first, the second has more than the first or the last more than the second.
+pub minus-steps : (s t u : ℕ) → s ⊆ t → t ⊆ u → (k : ℕ) → (k ∈ (u ∖ s)) ↔ ((k ∈ (t ∖ s)) ⊎ (k ∈ (u ∖ t)))
+minus-steps s t u h l k = (
+  λ m. let p = in-minus u s k .0 m in ⊎-map (λ i. in-minus t s k .1 (i, p .1)) (λ i. i) (in-or-minus t u k (p .0)),
+  λ c. in-minus u s k .1 (elim c [
+    | inl m ↦ let p = in-minus t s k .0 m in (l k (p .0), p .1)
+    | inr m ↦ let p = in-minus u t k .0 m in (p .0, λ n. p .1 (h k n))
+  ]),
+)
+
+-- What an insertion adds.
+pub insert-minus : (s k : ℕ) → (k ∈ s → ⊥) → (j : ℕ) → (j ∈ (insert s k ∖ s)) ↔ (j ≡ k)
+insert-minus s k off j = (
+  λ m. let p = in-minus (insert s k) s j .0 m in elim (in-insert s k j .0 (p .0)) [ inl i ↦ absurd (p .1 i) | inr e ↦ e ],
+  λ e. rw e (in-minus (insert s k) s k .1 (in-insert s k k .1 (inr refl), off)),
+)
+
 -- The power 2 ^ k is the set of k alone.
 pub in-single : (k j : ℕ) → (j ∈ 2 ^ k) ↔ (j ≡ k)
 in-single k j = rw (has-power k j) (T-eqb j k)

@@ -8,7 +8,7 @@
 --   JudgedMeans N c r v  what the refusal r and the verdict v on c mean
 --   Total N c r m        adding up the metres of the set c in N gives the refusal r and the total m
 --
--- Of the list call this is `Listing` (listing, List).
+-- Of the two calls that list these are `Listing` (listing, List) and `TrimmedListing` (listing, Trimmed).
 use mathlib.Core.List.{List}
 use mathlib.Core.Logic.{_↔_}
 use mathlib.Core.Path.{_≡_}

@@ -13,6 +13,7 @@ ghost use Rattle.format.specs.Meaning.{ReadMeans, WrittenMeans};
 ghost use Rattle.connectivity.specs.Answers.{PartMeans};
 ghost use Rattle.lengths.specs.Lengths.{TotalMeans};
 ghost use Rattle.listing.specs.List.{Listing, ListMeans};
+ghost use Rattle.listing.specs.Trimmed.{TrimmedListing, TrimmedMeans};
 ghost use Rattle.capi.specs.Fields.{Read, Written, Found, Judged, JudgedMeans, Total};
 
 // Reads a plan. Gives the refusal's number, 0 if there is none, and fills in the record, all zero on refusal.
@@ -209,6 +210,32 @@ pub extern "C" fn cutlist_list(
     let listed = listing::list(to_list, cuts, sides);
     *count = listed.count;
     listed.refusal
+}
+
+// Lists the minimal cuts of a plan that was trimmed already, as `cutlist_list` does, with a test in place of the trimming. Gives the refusal's
+// number, 0 if there is none, and the count of rows listed, 0 on refusal, when no row changes.
+#[no_mangle]
+pub extern "C" fn cutlist_list_trimmed(
+    nodes: u8,
+    source: u8,
+    sink: u8,
+    present: u64,
+    first: &[u8; 64],
+    second: &[u8; 64],
+    metres: &[u16; 64],
+    cuts: &mut [u64],
+    sides: &mut [NodeWord],
+    count: &mut usize,
+) -> u8
+    ensures { λ r. ⌜ TrimmedListing (assembled nodes source sink present (now (first .entry)) (now (second .entry)) (now (metres .entry))) (now (cuts .entry)) (now (sides .entry))
+        r (now (count .exit)) (now (cuts .exit)) (now (sides .exit)) ⌝ }
+    ensures means { λ r. ⌜ TrimmedMeans (assembled nodes source sink present (now (first .entry)) (now (second .entry)) (now (metres .entry))) (now (cuts .entry)) (now (sides .entry))
+        r (now (count .exit)) (now (cuts .exit)) (now (sides .exit)) ⌝ }
+{
+    let offered = assemble(nodes, source, sink, present, first, second, metres);
+    let answered = listing::list_trimmed(offered, cuts, sides);
+    *count = answered.count;
+    answered.refusal
 }
 
 // Counts the rows of a list by width: the number of rows with so many cables, for each width from 0 to 64.

@@ -1,6 +1,7 @@
 -- Demand 1: every call ends with the complete result or with the named refusal that its own condition calls for.
 -- Assumes what the code's types say of the records.
 use mathlib.Core.Path.{_≡_, refl, sym, ap, subst, _∙_}
+use mathlib.Core.Bool.{Bool, true, false}
 use mathlib.Core.List.{List}
 use mathlib.Core.Logic.{_↔_}
 use Prim.Native.Nat.{ℕ, _≤_, _<_}
@@ -25,25 +26,30 @@ use Rattle.format.proofs.Reading.{accepts, decode-plan, decode-answer}
 use Rattle.format.proofs.Writing.{encode-decode}
 use Rattle.writer.proofs.Encoding.{Answered as Written, encode-refused, encode-written}
 use Rattle.graph.specs.Lists.{Outnumber}
-use Rattle.graph.specs.Relevant.{relevantNodes, relevantEdges, sourceSideOf}
+use Rattle.graph.specs.Relevant.{relevantNodes, relevantEdges, trimmed, sourceSideOf}
 use Rattle.graph.proofs.Sound.{Sound, accepted-sound}
 use Rattle.graph.proofs.Relevant.{in-relevantNodes, in-relevantEdges}
+use Rattle.graph.proofs.Trimmed.{trimmed-iff, untrimmed-iff}
 use Rattle.connectivity.specs.declared.Verdict.{Verdict}
 use Rattle.connectivity.specs.declared.Verdict.the-variants.{NotCut, NotMinimal, Minimal, Refused}
 use Rattle.connectivity.specs.Answers.{relevantOf, verdictOf, Says, numbersOf}
 use Rattle.connectivity.proofs.Answers.{part-refused, part-accepted, verdict-refused, verdict-right}
 use Rattle.lengths.specs.Lengths.{totalOf}
 use Rattle.lengths.proofs.Totals.{total-refused, total-given}
+use Rattle.trimmed.specs.Trimmed.{trimmedFault}
+use Rattle.trimmed.proofs.Faults.{trimmed-faulty, trimmed-refused, trimmed-none}
 use Rattle.listing.specs.declared.Listed.{Listed}
 use Rattle.listing.specs.List.{mincuts, sourceSides, listedBy, cutRowsAfter, sideRowsAfter}
+use Rattle.listing.specs.Trimmed.{trimmedListedBy, trimmedCutRows, trimmedSideRows}
 use Rattle.listing.proofs.Refusals.{Case, faulty, unpaired, outnumbered, complete, call-case, refusal-none}
 use Rattle.listing.proofs.Call.{Answered, answered-faulty, answered-unpaired, answered-outnumbered, answer-refusal, complete-call}
 use Rattle.listing.proofs.Meaning.{mincuts-complete, outnumber-iff, call-complete, call-outnumbered}
 use Rattle.listing.proofs.Rows.{mincuts-count}
+use Rattle.listing.proofs.Trimmed.{TrimmedAnswered, trimmed-answered-refused, trimmed-answered}
 use Rattle.text.specs.Text.{refusalLine, maxRows}
 use Rattle.report.specs.Report.{listReport, reportOf}
 use Rattle.report.proofs.Reports.{report-outnumbered, report-complete}
-use Rattle.demands.specs.Endings.{ReaderEnds, PartEnds, JudgingEnds, TotalEnds, Kept, ListEnds, WriterEnds, ReportEnds}
+use Rattle.demands.specs.Endings.{ReaderEnds, PartEnds, JudgingEnds, TotalEnds, Kept, ListEnds, TrimmedEnds, WriterEnds, ReportEnds}
 use Rattle.demands.specs.Demands.{DemandOne}
 
 -- A record without a fault keeps the rules.
@@ -157,6 +163,30 @@ module _ (N : Network) (stored : Stored N) (cuts sides : List ℕ) where
           (ListEnds.complete (length (mincuts N)) _ _ (rules N ok) paired (λ o. omega (arith, more ok .1 o)) (call-complete N stored cuts sides left refl)
           (kept-onto (mincuts N) cuts _ refl fits) (kept-onto (sourceSides N) sides _ (length-map (mincuts N) (sourceSideOf N)) (rw paired at fits)))
 
+-- ---- the list of a network that was trimmed already
+
+module _ (N : Network) (stored : Stored N) (cuts sides : List ℕ) where
+  -- What ends so is what the call answers and leaves.
+  trimmed-ended : {l : Listed} {cuts′ sides′ : List ℕ} → TrimmedAnswered N cuts sides l cuts′ sides′ → TrimmedEnds N cuts sides l cuts′ sides′
+      → TrimmedEnds N cuts sides (trimmedListedBy N cuts sides) (trimmedCutRows N cuts sides) (trimmedSideRows N cuts sides)
+  trimmed-ended a e = rw (← a .0, ← a .1, ← a .2) e
+
+  trimmed-list : TrimmedEnds N cuts sides (trimmedListedBy N cuts sides) (trimmedCutRows N cuts sides) (trimmedSideRows N cuts sides)
+  trimmed-list = go (ℕ-discrete (faultOf N) 0) (trimmed N) refl
+    where
+      refuse : (r : ℕ) → trimmedFault N ≡ r → (r ≡ 0 → ⊥) → TrimmedAnswered N cuts sides (record { refusal = r; count = 0 }) cuts sides
+      refuse r e = trimmed-answered-refused N cuts sides r (sym e)
+
+      go : Dec (faultOf N ≡ 0) → (b : Bool) → trimmed N ≡ b
+          → TrimmedEnds N cuts sides (trimmedListedBy N cuts sides) (trimmedCutRows N cuts sides) (trimmedSideRows N cuts sides)
+      go (no f) b q = trimmed-ended (refuse (faultOf N) (trimmed-faulty N f) f) (TrimmedEnds.faulty (some f))
+      go (yes ok) false q =
+          trimmed-ended (refuse 26 (trimmed-refused N ok q) (λ e. omega arith))
+          (TrimmedEnds.untrimmed (rules N ok) (untrimmed-iff N (accepted-sound N stored ok) .0 (rw q tt)))
+      go (yes ok) true q =
+          trimmed-ended (trimmed-answered N cuts sides (trimmed-none N ok q) (refl, refl, refl))
+          (TrimmedEnds.listed _ _ _ (rules N ok) (trimmed-iff N (accepted-sound N stored ok) .0 (rw q tt)) (list N stored cuts sides))
+
 -- ---- writing
 
 writer : (N : Network) (lent : List ℕ) → WriterEnds N lent (encodedBy N lent) (bytesAfter N lent)
@@ -211,6 +241,7 @@ demand-one = record {
   total = total;
   list = list;
   too-many = λ N stored cuts sides. call-outnumbered N stored cuts sides refl;
+  trimmed = trimmed-list;
   writer = λ N stored. writer N;
   program = program;
 }

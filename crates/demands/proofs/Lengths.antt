@@ -32,6 +32,8 @@ use Rattle.connectivity.specs.Answers.{verdictOf}
 use Rattle.connectivity.proofs.Answers.{verdict-refused}
 use Rattle.listing.specs.declared.Listed.{Listed}
 use Rattle.listing.specs.List.{listedBy, cutRowsAfter}
+use Rattle.listing.specs.Trimmed.{trimmedListedBy, trimmedCutRows, trimmedSideRows}
+use Rattle.listing.proofs.Agree.{trimmed-call-agrees}
 use Rattle.demands.specs.Alike.{Alike}
 use Rattle.demands.specs.Lengths.{EdgeFits, LengthPlaces, withMetres, Accepted, MetresUnread}
 use Rattle.demands.proofs.Alike.{alike}
@@ -152,6 +154,12 @@ module _ (N : Network) (l : List ℕ) where
             sym (verdict-refused M c 14 (set-absent M c (b .faultless) out) (λ e. omega arith))
             ∙ verdict-refused N c 14 (set-absent N c (a .faultless) out) (λ e. omega arith)
 
+    trimmed : (cuts sides : List ℕ)
+        → (trimmedListedBy M cuts sides ≡ trimmedListedBy N cuts sides)
+        × (trimmedCutRows M cuts sides ≡ trimmedCutRows N cuts sides)
+        × (trimmedSideRows M cuts sides ≡ trimmedSideRows N cuts sides)
+    trimmed = trimmed-call-agrees M N (b .stored) (a .stored) (b .faultless) (a .faultless) agree refl refl
+
     counts : (cuts sides : List ℕ) → listedBy M cuts sides .count ≡ listedBy N cuts sides .count
     counts cuts sides = ap (λ (x : Listed). x .count) (answers .list cuts sides .0)
 
@@ -173,5 +181,6 @@ metres-unread = record {
   sides = λ N l. side-agree (withMetres N l) N (agree N l);
   answers = answers;
   verdicts = verdicts;
+  trimmed = trimmed;
   equality = equality;
 }

@@ -5,6 +5,7 @@ pub mod DemandThree
 pub mod Alike
 pub mod Loops
 pub mod Lengths
+pub mod Trimmed
 pub mod Kept
 pub mod Lifted
 pub mod KeptLengths

@@ -31,6 +31,8 @@ use Rattle.connectivity.specs.Answers.{relevantOf, verdictOf, Says}
 use Rattle.connectivity.proofs.Answers.{part-refusal, verdict-right}
 use Rattle.lengths.specs.Lengths.{totalOf}
 use Rattle.listing.specs.List.{mincuts, sourceSides, listRefusal, listedBy}
+use Rattle.trimmed.specs.Trimmed.{trimmedFault}
+use Rattle.listing.specs.Trimmed.{trimmedRefusal, trimmedListedBy}
 use Rattle.text.specs.Text.{digits, decimal, wordLine, refusalLine, listText, maxRows}
 use Rattle.report.specs.Report.{listReport, reportOf}
 use Rattle.demands.specs.Loops.{LoopsApart, AsWithout, LoopAdded, TenGone}
@@ -143,16 +145,22 @@ program s e = go (decodeOf s .refusal) (decode-answer s .number) e
     go zero a p = no-list (decodeOf s .network) p
     go (suc r) a p = other-line (suc r) (omega arith) a p
 
+list : (N : Network) (cuts sides : List ℕ) → listedBy N cuts sides .refusal ≡ 10 → ⊥
+unfolding listedBy listRefusal
+list N cuts sides =
+    then-other (faultOf N) (test N) (then-other (11 when not (eqb (length cuts) (length sides)))
+    (when-other 11 _ (λ e. omega arith) (omega arith)) (when-other 12 _ (λ e. omega arith) (omega arith)))
+
 pub ten-gone : TenGone
-unfolding among totalOf listedBy listRefusal encodedBy encodeRefusal
+unfolding among totalOf listedBy trimmedFault trimmedRefusal trimmedListedBy encodedBy encodeRefusal
 ten-gone = record {
   reader = λ s e. rw e at (decode-answer s .number);
   test = test;
   part = λ N e. test N (sym (part-refusal N (relevantOf N) refl) ∙ e);
   judging = judging;
   total = set;
-  list = λ N cuts sides. then-other (faultOf N) (test N) (then-other (11 when not (eqb (length cuts) (length sides)))
-      (when-other 11 _ (λ e. omega arith) (omega arith)) (when-other 12 _ (λ e. omega arith) (omega arith)));
+  list = list;
+  trimmed = λ N cuts sides. then-other (trimmedFault N) (then-other (faultOf N) (test N) (when-other 26 _ (λ e. omega arith) (omega arith))) (list N cuts sides);
   writer = λ N lent. then-other (faultOf N) (test N) (when-other 15 _ (λ e. omega arith) (omega arith));
   program = program;
 }

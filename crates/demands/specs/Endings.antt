@@ -11,6 +11,7 @@
 --   TotalEnds N c m                  adding up the metres of the set c in N gives m
 --   Kept n before after              lent rows or bytes: as many as before, and past the first n what they held
 --   ListEnds N cuts sides l cuts′ sides′     listing N into rows that held `cuts` and `sides` gives l and leaves cuts′ and sides′
+--   TrimmedEnds N cuts sides l cuts′ sides′  listing N, trimmed already, into such rows gives l and leaves cuts′ and sides′
 --   WriterEnds N lent e after        writing N into a buffer that held `lent` gives e and leaves `after`
 --   ReportEnds s t                   for the input s the list program prints t
 use mathlib.Core.List.{List}
@@ -27,7 +28,7 @@ use Rattle.network.specs.Rules.{Rules}
 use Rattle.format.specs.declared.Decoded.{Decoded}
 use Rattle.format.specs.declared.Encoded.{Encoded}
 use Rattle.format.specs.Format.{readerRefusals, accept, refuse, decodeOf, encodeOf}
-use Rattle.graph.specs.Cuts.{RelevantEdge, RelevantNode}
+use Rattle.graph.specs.Cuts.{RelevantEdge, RelevantNode, Trimmed, Untrimmed}
 use Rattle.graph.specs.Lists.{CompleteList, Outnumber}
 use Rattle.connectivity.specs.declared.RelevantPart.{RelevantPart}
 use Rattle.connectivity.specs.declared.Verdict.{Verdict}
@@ -72,6 +73,12 @@ pub data ListEnds (N : Network) (cuts sides : List ℕ) : Listed → List ℕ �
   unpaired : Rules N → (length cuts ≡ length sides → ⊥) → ListEnds N cuts sides (record { refusal = 11; count = 0 }) cuts sides
   outnumbered : Rules N → length cuts ≡ length sides → Outnumber N (length cuts)
       → ListEnds N cuts sides (record { refusal = 12; count = 0 }) cuts sides
+
+-- A trimmed network ends as the list call does; any other is refused with 26 before the rows are looked at.
+pub data TrimmedEnds (N : Network) (cuts sides : List ℕ) : Listed → List ℕ → List ℕ → Type 0 where
+  listed : (l : Listed) (cuts′ sides′ : List ℕ) → Rules N → Trimmed N → ListEnds N cuts sides l cuts′ sides′ → TrimmedEnds N cuts sides l cuts′ sides′
+  faulty : 0 < faultOf N → TrimmedEnds N cuts sides (record { refusal = faultOf N; count = 0 }) cuts sides
+  untrimmed : Rules N → Untrimmed N → TrimmedEnds N cuts sides (record { refusal = 26; count = 0 }) cuts sides
 
 -- The plan's bytes and later bytes as they were; 15 for a buffer that is too short.
 pub data WriterEnds (N : Network) (lent : List ℕ) : Encoded → List ℕ → Type 0 where

@@ -21,6 +21,7 @@ use Rattle.graph.specs.Cuts.{Mincut, OnSourceSide}
 use Rattle.graph.specs.Lists.{SameList}
 use Rattle.connectivity.specs.Answers.{verdictOf}
 use Rattle.listing.specs.List.{listedBy, cutRowsAfter}
+use Rattle.listing.specs.Trimmed.{trimmedListedBy, trimmedCutRows, trimmedSideRows}
 use Rattle.demands.specs.Alike.{Alike}
 
 -- ---- in bytes
@@ -65,6 +66,11 @@ pub record MetresUnread : Type 0 where
   pub answers : (N : Network) (l : List ℕ) → Accepted N → Accepted (withMetres N l) → Alike (withMetres N l) N
   -- On sets with an absent cable too.
   pub verdicts : (N : Network) (l : List ℕ) → Accepted N → Accepted (withMetres N l) → (c : ℕ) → verdictOf (withMetres N l) c ≡ verdictOf N c
+  -- Listed as trimmed already.
+  pub trimmed : (N : Network) (l : List ℕ) → Accepted N → Accepted (withMetres N l) → (cuts sides : List ℕ)
+      → (trimmedListedBy (withMetres N l) cuts sides ≡ trimmedListedBy N cuts sides)
+      × (trimmedCutRows (withMetres N l) cuts sides ≡ trimmedCutRows N cuts sides)
+      × (trimmedSideRows (withMetres N l) cuts sides ≡ trimmedSideRows N cuts sides)
   -- Two lists are equal, or not, whatever the metres of either plan.
   pub equality : (N M : Network) (l m : List ℕ) → Accepted N → Accepted (withMetres N l) → Accepted M → Accepted (withMetres M m)
       → (cuts sides cuts′ sides′ : List ℕ)

@@ -4,5 +4,6 @@ pub mod Demands
 pub mod Alike
 pub mod Loops
 pub mod Lengths
+pub mod Trimmed
 pub mod Kept
 pub mod Halls

@@ -12,6 +12,7 @@ pub mod RelevantNodes
 pub mod RelevantEdges
 pub mod Inside
 pub mod Relevant
+pub mod Trimmed
 pub mod SourceSides
 pub mod Correspondence
 pub mod Agree

@@ -61,7 +61,7 @@ module _ (N : Network) (S : Sound N) where
   )
 
   -- What is computed for c are the nodes that escape past c, and c.
-  in-past : (c v : ℕ) → (v ∈ past N c) ↔ ((v ≡ c) ⊎ Escapes N c v)
+  pub in-past : (c v : ℕ) → (v ∈ past N c) ↔ ((v ≡ c) ⊎ Escapes N c v)
   unfolding past
   in-past c v =
       let others : ℕ = (2 ^ N .nodes - 1) ∖ 2 ^ c in

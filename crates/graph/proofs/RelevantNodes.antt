@@ -107,6 +107,17 @@ module _ (N : Network) where
     ];
   }
 
+  -- An edge from another node than c, before an escape past c, is an escape past c.
+  pub escapes-over : (c e u v : ℕ) → Joins N e u v → c ≢ u → Escapes N c v → Escapes N c u
+  unfolding Leads
+  escapes-over c e u v j ne k = record {
+    steps = record { edge = e; to = v } ∷ k .steps;
+    end = k .end;
+    terminal = k .terminal;
+    leads = (j, k .leads);
+    avoids = λ m. elim (List·Memᴰ·cases-cons m) [ inl q ↦ ne q | inr i ↦ k .avoids i ];
+  }
+
   -- If v escapes past every other node, then each node of a simple path to v escapes past the one before, so that all lie on
   -- minpaths' paths if the first does.
   relevant-along : (p : List Hop) (u v : ℕ) → Leads N u p v → Simple u p → ((c : ℕ) → c ≢ v → Escapes N c v)

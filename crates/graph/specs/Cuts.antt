@@ -8,11 +8,13 @@
 --   RelevantEdge N e     e lies on some minpath (the paper's useful cable)
 --   OnMinpath N v        v is a node of some minpath's path
 --   RelevantNode N v     v is the source, the sink, or a node of some minpath's path (the paper's useful point)
+--   Trimmed N            every node and every present edge is relevant
+--   Untrimmed N          some node or some present edge is not
 --   OnSourceSide N c v   v is relevant, and source reaches it over relevant edges outside c (the paper's near side)
 use mathlib.Core.List.{List, List·Memᴰ}
 use mathlib.Core.Logic.{_⊎_}
 use mathlib.Core.Path.{_≡_}
-use Prim.Native.Nat.{ℕ}
+use Prim.Native.Nat.{ℕ, _<_}
 use Rattle.bitset.specs.Members.{_⊆_, _∖_, _∈_}
 use Rattle.network.specs.Record.{present, rewired}
 use Rattle.network.specs.declared.Network.{Network}
@@ -40,6 +42,15 @@ OnMinpath N v = (r : ℕ) × ((m : Minpath N r) × List·Memᴰ v (nodesFrom (N 
 
 abbrev pub RelevantNode : Network → ℕ → Type 0
 RelevantNode N v = (v ≡ N .source) ⊎ ((v ≡ N .sink) ⊎ OnMinpath N v)
+
+pub record Trimmed (N : Network) : Type 0 where
+  pub nodes : (v : ℕ) → v < N .nodes → RelevantNode N v
+  pub edges : (e : ℕ) → e ∈ present N → RelevantEdge N e
+
+abbrev pub Untrimmed : Network → Type 0
+Untrimmed N =
+    ((v : ℕ) × (v < N .nodes) × (RelevantNode N v → ⊥))
+    ⊎ ((e : ℕ) × (e ∈ present N) × (RelevantEdge N e → ⊥))
 
 -- The walk takes relevant edges outside c alone.
 pub record OnSourceSide (N : Network) (c v : ℕ) : Type 0 where

@@ -1,5 +1,5 @@
 -- The relevant part (the paper's useful part), source sides and their boundaries, as they are computed.
--- Computed: explained by in-relevantNodes, in-relevantEdges (graph/proofs/Relevant); in-sourceSideOf (graph/proofs/Correspondence).
+-- Computed: explained by in-relevantNodes, in-relevantEdges (graph/proofs/Relevant); trimmed-iff, untrimmed-iff (graph/proofs/Trimmed); in-sourceSideOf (graph/proofs/Correspondence).
 --
 --   chosen f n           the set of the numbers below n that pass the test f  [computed: in-chosen (graph/proofs/EdgeSets)]
 --   edgesAt N c          the present edges with an end at c  [computed: in-edgesAt (graph/proofs/EdgeSets)]
@@ -10,6 +10,7 @@
 --   pastAll N n          the nodes of N that are in past N c for each c below n
 --   relevantNodes N      the relevant nodes  [computed: in-relevantNodes (graph/proofs/Relevant)]
 --   relevantEdges N      the relevant edges: those within the relevant nodes  [computed: in-relevantEdges (graph/proofs/Relevant)]
+--   trimmed N            whether N is trimmed: these are all nodes and all present edges  [computed: trimmed-iff, untrimmed-iff (graph/proofs/Trimmed)]
 --   sourceSideOf N c     the source side of c  [computed: in-sourceSideOf (graph/proofs/Correspondence)]
 --   boundaryOf N s       the relevant edges with exactly one end in s  [computed: in-boundaryOf (graph/proofs/Correspondence)]
 use mathlib.Core.Bool.{Bool, not, xor, _&&_, _||_}
@@ -18,7 +19,7 @@ use lib.Bits.{bitAnd}
 use lib.Dec.{eqb}
 use Rattle.bitset.specs.Members.{has, insert, _∖_}
 use Rattle.network.specs.declared.Network.{Network}
-use Rattle.network.specs.Record.{hasEdge, firstEnd, secondEnd}
+use Rattle.network.specs.Record.{hasEdge, firstEnd, secondEnd, present}
 use Rattle.graph.specs.Cuts.{only}
 use Rattle.graph.specs.Reach.{addIf, reachOf}
 
@@ -53,6 +54,9 @@ relevantNodes N = pastAll N (N .nodes)
 
 unfoldable pub relevantEdges : Network → ℕ
 relevantEdges N = edgesWithin N (relevantNodes N)
+
+unfoldable pub trimmed : Network → Bool
+trimmed N = eqb (relevantNodes N) (2 ^ N .nodes - 1) && eqb (relevantEdges N) (present N)
 
 unfoldable pub sourceSideOf : Network → ℕ → ℕ
 sourceSideOf N c = reachOf (only N (relevantEdges N ∖ c)) (2 ^ N .source)

@@ -5,4 +5,5 @@ pub mod LentOn
 pub mod Refusals
 pub mod Call
 pub mod Meaning
+pub mod Trimmed
 pub mod Agree

@@ -2,6 +2,7 @@
 mod lister;
 
 pub use lister::list;
+pub use lister::list_trimmed;
 
 // The list call's answer: the refusal's number, 0 if there is none, beside the count of rows listed, 0 on refusal.
 pub struct Listed {

@@ -1,4 +1,5 @@
-// The list call: the relevant part, its rows, and their order.
+// The list call: the relevant part, its rows, and their order. And the same of a network that was trimmed already, with a test in place of the
+// relevant part.
 use crate::Listed;
 use edge_set::EdgeSet;
 use filling::fill;
@@ -12,6 +13,7 @@ ghost use mathlib.Core.Path.{_≡_};
 ghost use Rattle.network.specs.Record.{faultOf};
 ghost use Rattle.graph.specs.Relevant.{relevantNodes, relevantEdges};
 ghost use Rattle.listing.specs.List.{listedBy, cutRowsAfter, sideRowsAfter, ListMeans};
+ghost use Rattle.listing.specs.Trimmed.{trimmedListedBy, trimmedCutRows, trimmedSideRows, TrimmedMeans};
 
 // Lists the minimal cuts of an accepted network, given its relevant nodes and edges: 11, then 12; on refusal no row changes.
 fn list_part(
@@ -57,4 +59,22 @@ pub fn list(network: Network, cuts: &mut [u64], sides: &mut [NodeWord]) -> Liste
         return Listed { refusal, count: 0 };
     }
     list_part(network, part.nodes, part.edges, cuts, sides)
+}
+
+// Lists a network that was trimmed already, as `list` does. The record's first fault, then 26, then 11, then 12; on refusal no row changes.
+pub fn list_trimmed(network: Network, cuts: &mut [u64], sides: &mut [NodeWord]) -> Listed
+    ensures { λ r. ⌜ (r ≡ trimmedListedBy network (now (cuts .entry)) (now (sides .entry)))
+        × (now (cuts .exit) ≡ trimmedCutRows network (now (cuts .entry)) (now (sides .entry)))
+        × (now (sides .exit) ≡ trimmedSideRows network (now (cuts .entry)) (now (sides .entry))) ⌝ }
+    ensures means { λ r. ⌜ TrimmedMeans network (now (cuts .entry)) (now (sides .entry)) (r .refusal) (r .count) (now (cuts .exit)) (now (sides .exit)) ⌝ }
+{
+    let fault = trimmed::trimmed_fault(network);
+    if fault != 0 {
+        return Listed {
+            refusal: fault,
+            count: 0,
+        };
+    }
+    let all = NodeSet::below(network.nodes as u32);
+    list_part(network, all, network.present, cuts, sides)
 }

@@ -33,3 +33,5 @@ pub const ABSENT_EDGE_NOT_ZERO: u8 = 13; // an absent cable with an end or metre
 pub const EDGE_NOT_PRESENT: u8 = 14; // a given set holds a cable not present
 
 pub const BUFFER_TOO_SHORT: u8 = 15; // the plan needs more bytes than were lent
+
+pub const NOT_TRIMMED: u8 = 26; // some point or present cable is not useful

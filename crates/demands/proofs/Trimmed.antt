@@ -1,0 +1,107 @@
+-- Plans that were trimmed already: the call that lists them does what the list call does, and which plans they are.
+-- Assumes what the code's types say of the records.
+use mathlib.Core.Path.{_≡_, refl, sym, _∙_}
+use mathlib.Core.Bool.{Bool, true, false, true≢false}
+use mathlib.Core.List.{List}
+use mathlib.Core.Logic.{_⊎_, inl, inr, _↔_, Iff·trans, Iff·symm}
+use Prim.Native.Nat.{ℕ, _-_, _^_, _<_}
+use native.Mathlib.Decide.{ℕ-discrete}
+use native.Mathlib.Omega.{arith}
+use lib.Dec.{T}
+use Rattle.bitset.specs.Members.{_∈_}
+use Rattle.bitset.proofs.Sets.{not-zero, empty-or-member}
+use Rattle.network.specs.declared.Network.{Network}
+use Rattle.network.specs.Record.{Stored, faultOf, present}
+use Rattle.network.specs.Ends.{Loop}
+use Rattle.graph.specs.Paths.{Minpath}
+use Rattle.graph.specs.Cuts.{RelevantNode, Trimmed}
+use Rattle.graph.specs.Relevant.{trimmed}
+use Rattle.graph.proofs.Sound.{Sound, accepted-sound}
+use Rattle.graph.proofs.Trimmed.{trimmed-whole, trimmed-iff, trimmed-loop}
+use Rattle.connectivity.specs.Answers.{relevantOf}
+use Rattle.connectivity.proofs.Answers.{part-refusal, part-nodes, part-edges}
+use Rattle.trimmed.proofs.Faults.{trimmed-refused, trimmed-none}
+use Rattle.listing.specs.List.{listRefusal}
+use Rattle.listing.specs.Trimmed.{trimmedRefusal, trimmedListedBy}
+use Rattle.listing.proofs.Trimmed.{trimmed-then, refusal-untrimmed, refusal-ordinary, answers-ordinary, trimmed-refusal}
+use Rattle.demands.specs.Trimmed.{SameListing, TrimmedListed}
+
+-- Where the refusal is that of the list call, so is all that the call does.
+same : (N : Network) (cuts sides : List ℕ) → trimmedRefusal N cuts sides ≡ listRefusal N cuts sides → SameListing N cuts sides
+same N cuts sides e = let p = answers-ordinary N cuts sides e in record { answer = p .0; cut-rows = p .1; side-rows = p .2 }
+
+rows : (N : Network) (cuts sides : List ℕ) → trimmedListedBy N cuts sides .refusal ≡ 0 → SameListing N cuts sides
+rows N cuts sides none = same N cuts sides (refusal-ordinary N cuts sides (λ e. omega (arith, trimmed-refusal N cuts sides, none)))
+
+-- What the test says of a sound network.
+is-trimmed : (N : Network) → Sound N → Trimmed N → trimmed N ≡ true
+is-trimmed N S t = go (trimmed N) (trimmed-iff N S .1 t)
+  where
+    go : (b : Bool) → T b → b ≡ true
+    go true t = refl
+    go false t = absurd t
+
+takes : (N : Network) → Stored N → Trimmed N → (cuts sides : List ℕ) → SameListing N cuts sides
+takes N stored t cuts sides =
+    same N cuts sides (refusal-ordinary N cuts sides (λ e.
+    let (ok, lacks) = refusal-untrimmed N cuts sides .0 e in
+    true≢false (sym (is-trimmed N (accepted-sound N stored ok) t) ∙ lacks)))
+
+module _ (N : Network) (stored : Stored N) (ok : faultOf N ≡ 0) where
+  sound : Sound N
+  sound = accepted-sound N stored ok
+
+  part : Trimmed N ↔ ((relevantOf N .nodes .0 ≡ 2 ^ N .nodes - 1) × (relevantOf N .edges .0 ≡ present N))
+  part =
+      let none = part-refusal N (relevantOf N) refl ∙ ok in
+      rw (part-nodes N (relevantOf N) refl none, part-edges N (relevantOf N) refl none)
+      (Iff·trans (Iff·symm (trimmed-iff N sound)) (trimmed-whole N))
+
+  loop : (k v : ℕ) → Loop N k v → (cuts sides : List ℕ) → trimmedListedBy N cuts sides .refusal ≡ 26
+  loop k v l cuts sides =
+      trimmed-refusal N cuts sides ∙ refusal-untrimmed N cuts sides .1 (ok, trimmed-loop N sound (λ none. none k v l))
+
+  -- ---- without a route
+
+  module _ (apart : (r : ℕ) → Minpath N r → ⊥) where
+    -- The terminals alone are relevant.
+    terminal : (v : ℕ) → RelevantNode N v → (v ≡ N .source) ⊎ (v ≡ N .sink)
+    terminal v (inl e) = inl e
+    terminal v (inr (inl e)) = inr e
+    terminal v (inr (inr (r, (m, i)))) = absurd (apart r m)
+
+    -- Of three points one is neither.
+    third : 2 < N .nodes → ((v : ℕ) → v < N .nodes → (v ≡ N .source) ⊎ (v ≡ N .sink)) → ⊥
+    third h ends = go (ends 0 (omega arith)) (ends 1 (omega arith)) (ends 2 (omega arith))
+      where
+        go : (0 ≡ N .source) ⊎ (0 ≡ N .sink) → (1 ≡ N .source) ⊎ (1 ≡ N .sink) → (2 ≡ N .source) ⊎ (2 ≡ N .sink) → ⊥
+        go (inl a) (inl b) c = omega arith
+        go (inl a) (inr b) (inl c) = omega arith
+        go (inl a) (inr b) (inr c) = omega arith
+        go (inr a) (inl b) (inl c) = omega arith
+        go (inr a) (inl b) (inr c) = omega arith
+        go (inr a) (inr b) c = omega arith
+
+    -- Of two points each is one of them.
+    either : N .nodes ≡ 2 → (v : ℕ) → v < N .nodes → (v ≡ N .source) ⊎ (v ≡ N .sink)
+    either two v h = go (ℕ-discrete v (N .source))
+      where
+        go : Dec (v ≡ N .source) → (v ≡ N .source) ⊎ (v ≡ N .sink)
+        go (yes e) = inl e
+        go (no n) = inr (omega (arith, sound .differ, sound .source-lt, sound .sink-lt))
+
+    no-route : Trimmed N ↔ ((N .nodes ≡ 2) × (present N ≡ 0))
+    no-route = (
+      λ t.
+          let few : 2 < N .nodes → ⊥ = λ h. third h (λ v l. terminal v (t .nodes v l)) in (
+            omega (arith, few, sound .differ, sound .source-lt, sound .sink-lt),
+            elim (empty-or-member (present N)) [ inl none ↦ none | inr m ↦ absurd (apart _ (t .edges (m .0) (m .1) .1 .0)) ],
+          ),
+      λ p. record {
+        nodes = λ v h. elim (either (p .0) v h) [ inl e ↦ inl e | inr e ↦ inr (inl e) ];
+        edges = λ e m. absurd (not-zero e (rw (p .1) at m));
+      },
+    )
+
+pub trimmed-listed : TrimmedListed
+trimmed-listed = record { rows = rows; trimmed = takes; part = part; loop = loop; no-route = no-route }

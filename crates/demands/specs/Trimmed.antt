@@ -1,0 +1,35 @@
+-- Plans that were trimmed already, and the call that lists them: what it lists is the ordinary list, and which plans it takes.
+-- To believe.
+--
+--   SameListing N cuts sides     the call answers as the list call does, and leaves the same rows
+--   TrimmedListed        where it lists, and on a trimmed plan whatever was lent, it does what the list call does; which plans are trimmed
+use mathlib.Core.List.{List}
+use mathlib.Core.Logic.{_↔_}
+use mathlib.Core.Path.{_≡_}
+use Prim.Native.Nat.{ℕ, _-_, _^_}
+use Rattle.network.specs.declared.Network.{Network}
+use Rattle.network.specs.Record.{Stored, faultOf, present}
+use Rattle.network.specs.Ends.{Loop}
+use Rattle.graph.specs.Paths.{Minpath}
+use Rattle.graph.specs.Cuts.{Trimmed}
+use Rattle.connectivity.specs.Answers.{relevantOf}
+use Rattle.listing.specs.List.{listedBy, cutRowsAfter, sideRowsAfter}
+use Rattle.listing.specs.Trimmed.{trimmedListedBy, trimmedCutRows, trimmedSideRows}
+
+pub record SameListing (N : Network) (cuts sides : List ℕ) : Type 0 where
+  pub answer : trimmedListedBy N cuts sides ≡ listedBy N cuts sides
+  pub cut-rows : trimmedCutRows N cuts sides ≡ cutRowsAfter N cuts sides
+  pub side-rows : trimmedSideRows N cuts sides ≡ sideRowsAfter N cuts sides
+
+pub record TrimmedListed : Type 0 where
+  -- Where it lists, the rows are those of the list call.
+  pub rows : (N : Network) (cuts sides : List ℕ) → trimmedListedBy N cuts sides .refusal ≡ 0 → SameListing N cuts sides
+  -- A trimmed plan ends as by the list call, refused or not.
+  pub trimmed : (N : Network) → Stored N → Trimmed N → (cuts sides : List ℕ) → SameListing N cuts sides
+  -- A plan is trimmed exactly if its useful part is all of it.
+  pub part : (N : Network) → Stored N → faultOf N ≡ 0
+      → Trimmed N ↔ ((relevantOf N .nodes .0 ≡ 2 ^ N .nodes - 1) × (relevantOf N .edges .0 ≡ present N))
+  -- A plan with a loop is refused with 26.
+  pub loop : (N : Network) → Stored N → faultOf N ≡ 0 → (k v : ℕ) → Loop N k v → (cuts sides : List ℕ) → trimmedListedBy N cuts sides .refusal ≡ 26
+  -- Without a route, two points without a cable are trimmed, and nothing else is.
+  pub no-route : (N : Network) → Stored N → faultOf N ≡ 0 → ((r : ℕ) → Minpath N r → ⊥) → Trimmed N ↔ ((N .nodes ≡ 2) × (present N ≡ 0))
