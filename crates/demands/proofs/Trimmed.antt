@@ -1,14 +1,13 @@
 -- Plans that were trimmed already: the call that lists them does what the list call does, and which plans they are.
 -- Assumes what the code's types say of the records.
 use mathlib.Core.Path.{_≡_, refl, sym, _∙_}
-use mathlib.Core.Bool.{Bool, true, false, true≢false}
+use mathlib.Core.Bool.{true, true≢false}
 use mathlib.Core.List.{List}
 use mathlib.Core.Logic.{_⊎_, inl, inr, _↔_, Iff·trans, Iff·symm}
 use Prim.Native.Nat.{ℕ, _-_, _^_, _<_}
 use native.Mathlib.Decide.{ℕ-discrete}
 use native.Mathlib.Omega.{arith}
-use lib.Dec.{T}
-use Rattle.bitset.specs.Members.{_∈_}
+use denote.Floats.{is-true}
 use Rattle.bitset.proofs.Sets.{not-zero, empty-or-member}
 use Rattle.network.specs.declared.Network.{Network}
 use Rattle.network.specs.Record.{Stored, faultOf, present}
@@ -20,26 +19,22 @@ use Rattle.graph.proofs.Sound.{Sound, accepted-sound}
 use Rattle.graph.proofs.Trimmed.{trimmed-whole, trimmed-iff, trimmed-loop}
 use Rattle.connectivity.specs.Answers.{relevantOf}
 use Rattle.connectivity.proofs.Answers.{part-refusal, part-nodes, part-edges}
-use Rattle.trimmed.proofs.Faults.{trimmed-refused, trimmed-none}
 use Rattle.listing.specs.List.{listRefusal}
 use Rattle.listing.specs.Trimmed.{trimmedRefusal, trimmedListedBy}
-use Rattle.listing.proofs.Trimmed.{trimmed-then, refusal-untrimmed, refusal-ordinary, answers-ordinary, trimmed-refusal}
+use Rattle.listing.proofs.Call.{answered-listing}
+use Rattle.listing.proofs.Trimmed.{refusal-untrimmed, refusal-ordinary, answers-ordinary, trimmed-refusal}
 use Rattle.demands.specs.Trimmed.{SameListing, TrimmedListed}
 
 -- Where the refusal is that of the list call, so is all that the call does.
 same : (N : Network) (cuts sides : List ℕ) → trimmedRefusal N cuts sides ≡ listRefusal N cuts sides → SameListing N cuts sides
-same N cuts sides e = let p = answers-ordinary N cuts sides e in record { answer = p .0; cut-rows = p .1; side-rows = p .2 }
+same N cuts sides e = answered-listing (answers-ordinary N cuts sides e)
 
 rows : (N : Network) (cuts sides : List ℕ) → trimmedListedBy N cuts sides .refusal ≡ 0 → SameListing N cuts sides
 rows N cuts sides none = same N cuts sides (refusal-ordinary N cuts sides (λ e. omega (arith, trimmed-refusal N cuts sides, none)))
 
 -- What the test says of a sound network.
 is-trimmed : (N : Network) → Sound N → Trimmed N → trimmed N ≡ true
-is-trimmed N S t = go (trimmed N) (trimmed-iff N S .1 t)
-  where
-    go : (b : Bool) → T b → b ≡ true
-    go true t = refl
-    go false t = absurd t
+is-trimmed N S t = is-true (trimmed N) (trimmed-iff N S .1 t)
 
 takes : (N : Network) → Stored N → Trimmed N → (cuts sides : List ℕ) → SameListing N cuts sides
 takes N stored t cuts sides =

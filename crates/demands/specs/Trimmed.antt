@@ -13,13 +13,13 @@ use Rattle.network.specs.Ends.{Loop}
 use Rattle.graph.specs.Paths.{Minpath}
 use Rattle.graph.specs.Cuts.{Trimmed}
 use Rattle.connectivity.specs.Answers.{relevantOf}
-use Rattle.listing.specs.List.{listedBy, cutRowsAfter, sideRowsAfter}
+use Rattle.listing.specs.List.{Listing}
 use Rattle.listing.specs.Trimmed.{trimmedListedBy, trimmedCutRows, trimmedSideRows}
 
-pub record SameListing (N : Network) (cuts sides : List ℕ) : Type 0 where
-  pub answer : trimmedListedBy N cuts sides ≡ listedBy N cuts sides
-  pub cut-rows : trimmedCutRows N cuts sides ≡ cutRowsAfter N cuts sides
-  pub side-rows : trimmedSideRows N cuts sides ≡ sideRowsAfter N cuts sides
+abbrev pub SameListing : Network → List ℕ → List ℕ → Type 0
+SameListing N cuts sides =
+    let l = trimmedListedBy N cuts sides in
+    Listing N cuts sides (l .refusal) (l .count) (trimmedCutRows N cuts sides) (trimmedSideRows N cuts sides)
 
 pub record TrimmedListed : Type 0 where
   -- Where it lists, the rows are those of the list call.

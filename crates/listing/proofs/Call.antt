@@ -2,7 +2,7 @@
 -- Assumes an accepted record where rows are enumerated.
 --
 --   Answered N cuts sides r cuts′ sides′     the answer and the rows left are those of the call
-use mathlib.Core.Path.{_≡_, refl, sym, _∙_}
+use mathlib.Core.Path.{_≡_, refl, sym, ap, _∙_}
 use mathlib.Core.List.{List}
 use Prim.Native.Nat.{ℕ, _-_, _≤_, _<_}
 use native.Mathlib.Omega.{arith}
@@ -17,7 +17,7 @@ use Rattle.filling.specs.Filled.{Filled}
 use Rattle.graph.proofs.Sound.{Sound, accepted-sound}
 use Rattle.branches.specs.Enumeration.{Row, cutsOf, sidesOf, rows}
 use Rattle.listing.specs.declared.Listed.{Listed}
-use Rattle.listing.specs.List.{mincuts, sourceSides, listRefusal, listedBy, cutRowsAfter, sideRowsAfter}
+use Rattle.listing.specs.List.{mincuts, sourceSides, listRefusal, listedBy, cutRowsAfter, sideRowsAfter, Listing}
 use Rattle.listing.proofs.Rows.{rows-paired, mincuts-count, sorted-mincuts, sorted-sides}
 use Rattle.listing.proofs.LentOn.{onto-first, onto-back}
 use Rattle.listing.proofs.Refusals.{refusal-faulty, refusal-unpaired, refusal-outnumbered, refusal-none}
@@ -26,6 +26,16 @@ use Rattle.listing.proofs.Refusals.{refusal-faulty, refusal-unpaired, r
 abbrev pub Answered : Network → List ℕ → List ℕ → Listed → List ℕ → List ℕ → Type 0
 Answered N cuts sides r cuts′ sides′ =
     (r ≡ listedBy N cuts sides) × (cuts′ ≡ cutRowsAfter N cuts sides) × (sides′ ≡ sideRowsAfter N cuts sides)
+
+-- So they are number by number.
+pub answered-listing : {N : Network} {cuts sides : List ℕ} {r : Listed} {cuts′ sides′ : List ℕ} → Answered N cuts sides r cuts′ sides′
+    → Listing N cuts sides (r .refusal) (r .count) cuts′ sides′
+answered-listing a = record {
+  refusal = ap (λ (l : Listed). l .refusal) (a .0);
+  count = ap (λ (l : Listed). l .count) (a .0);
+  cut-rows = a .1;
+  side-rows = a .2;
+}
 
 -- A refusal leaves the rows as they were.
 refused : (N : Network) (cuts sides : List ℕ) (r : ℕ) → listRefusal N cuts sides ≡ r → (r ≡ 0 → ⊥)

@@ -9,26 +9,26 @@ use mathlib.Core.Logic.{_↔_}
 use Prim.Native.Nat.{ℕ}
 use native.Mathlib.Decide.{ℕ-discrete}
 use native.Mathlib.Omega.{arith}
-use denote.Floats.{is-true, passes}
+use borrow.Author.Tests.{not-true}
+use denote.Floats.{is-true}
 use lib.Dec.{T}
 use lib.ListN.{length}
 use Rattle.sequences.specs.Words.{onto}
-use Rattle.sequences.proofs.Tests.{T-not}
 use Rattle.network.specs.declared.Network.{Network}
-use Rattle.network.specs.Record.{_then_, among, faultOf, Stored}
+use Rattle.network.specs.Record.{among, faultOf, Stored}
 use Rattle.network.proofs.Refusals.{none-then, some-then, refused-some}
 use Rattle.network.proofs.Numbers.{not-fault}
-use Rattle.graph.specs.Cuts.{Trimmed, Untrimmed}
+use Rattle.graph.specs.Cuts.{Untrimmed}
 use Rattle.graph.specs.Relevant.{trimmed}
 use Rattle.graph.proofs.Sound.{accepted-sound}
 use Rattle.graph.proofs.Trimmed.{trimmed-iff, untrimmed-iff}
 use Rattle.trimmed.specs.Trimmed.{trimmedFault}
 use Rattle.trimmed.proofs.Faults.{trimmed-faulty, trimmed-refused, trimmed-none, trimmed-ok}
 use Rattle.listing.specs.declared.Listed.{Listed}
-use Rattle.listing.specs.List.{mincuts, sourceSides, listedUnder, cutRowsUnder, sideRowsUnder, listRefusal, listedBy, cutRowsAfter, sideRowsAfter, Listing}
+use Rattle.listing.specs.List.{mincuts, sourceSides, listedUnder, cutRowsUnder, sideRowsUnder, listRefusal, listedBy, cutRowsAfter, sideRowsAfter}
 use Rattle.listing.specs.Trimmed.{trimmedRefusal, trimmedListedBy, trimmedCutRows, trimmedSideRows, TrimmedMeans}
 use Rattle.listing.proofs.Refusals.{Case, faulty, unpaired, outnumbered, complete, call-case, refusal-faulty, refusal-unpaired, refusal-outnumbered, refusal-none}
-use Rattle.listing.proofs.Call.{Answered, answer-refusal}
+use Rattle.listing.proofs.Call.{Answered, answered-listing}
 use Rattle.listing.proofs.Meaning.{answered-means}
 
 -- The answer and the rows left are those of the call.
@@ -131,21 +131,15 @@ module _ (N : Network) (cuts sides : List ℕ) where
           stored = stored;
           untrimmed = (
             λ e. let p = refusal-untrimmed .0 (sym by ∙ e) in (p .0, lacks (p .0) .0 (rw (p .1) tt)),
-            λ p. by ∙ refusal-untrimmed .1 (p .0, is-false (trimmed N) (lacks (p .0) .1 (p .1))),
+            λ p. by ∙ refusal-untrimmed .1 (p .0, not-true (trimmed N) (is-true _ (lacks (p .0) .1 (p .1)))),
           );
           trimmed = λ none.
               let p = trimmed-ok N (first-none (sym by ∙ none)) in
               trimmed-iff N (accepted-sound N stored (p .0)) .0 (rw (p .1) tt);
-          ordinary = λ other.
-              let o = ordinary other in
-              record { refusal = ap (λ (x : Listed). x .refusal) (o .0); count = ap (λ (x : Listed). x .count) (o .0); cut-rows = o .1; side-rows = o .2 };
+          ordinary = λ other. answered-listing (ordinary other);
           listed = λ other. answered-means N stored cuts sides (ordinary other) .1;
         },
       )
     where
-      is-false : (b : Bool) → T (not b) → b ≡ false
-      is-false true t = absurd t
-      is-false false t = refl
-
       first-none : trimmedRefusal N cuts sides ≡ 0 → trimmedFault N ≡ 0
       first-none e = elim (ℕ-discrete (trimmedFault N) 0) [ yes z ↦ z | no n ↦ absurd (n (sym (trimmed-first n) ∙ e)) ]
