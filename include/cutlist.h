@@ -38,10 +38,10 @@
  * nothing and call nothing but memcpy and memset. So they may be called from several threads at once
  * and from signal handlers, as long as no call is given memory that another one writes.
  *
- * Each call takes at most CUTLIST_STACK_BYTES of stack; cutlist_list takes the most, and every other
- * call less than 2 KiB: rust/tests/stack.rs measures it, on halls where the list goes as deep as it
- * can. Of the list's stack 32 KiB hold rows that it keeps while it counts them. The list program makes
- * all that it prints on its stack, and needs 896 KiB.
+ * Each call takes at most CUTLIST_STACK_BYTES of stack; cutlist_list and cutlist_list_trimmed take the
+ * most, and every other call less than 2 KiB: rust/tests/stack.rs measures it, on halls where the list
+ * goes as deep as it can. Of the list's stack 32 KiB hold rows that it keeps while it counts them. The
+ * list program makes all that it prints on its stack, and needs 896 KiB.
  */
 #ifndef CUTLIST_H
 #define CUTLIST_H
@@ -94,7 +94,8 @@ enum cutlist_refusal {
     CUTLIST_TOO_MANY_CUTS = 12,         /* more minimal cuts than rows lent */
     CUTLIST_ABSENT_EDGE_NOT_ZERO = 13,  /* an absent cable with an end or metres not 0 */
     CUTLIST_EDGE_NOT_PRESENT = 14,      /* a given set holds a cable not present */
-    CUTLIST_BUFFER_TOO_SHORT = 15       /* the plan needs more bytes than were lent */
+    CUTLIST_BUFFER_TOO_SHORT = 15,      /* the plan needs more bytes than were lent */
+    CUTLIST_NOT_TRIMMED = 26            /* some point or present cable is not useful */
 };
 
 /* What judging says of a set of cables. */
@@ -232,6 +233,29 @@ uint8_t cutlist_list(
     size_t *count);
 
 /*
+ * Lists the minimal cuts of a plan that was trimmed already, so that every point and every present
+ * cable is useful: for callers that trim plans themselves. In place of trimming it tests that, which
+ * takes less time, and what it lists is what cutlist_list lists. Refusals, in this order: those of
+ * cutlist_fault, 26 if some point or present cable is not useful, 11 and 12. So a plan with a loop is
+ * refused with 26, and of the plans without a route all but two points without a cable.
+ *
+ *   cuts, cuts_length    out: the lent rows for cuts; rows past the count hold what they held
+ *   sides, sides_length  out: the lent rows for near sides, as many as for cuts; likewise
+ *   count                out: how many rows were listed, 0 on refusal
+ */
+uint8_t cutlist_list_trimmed(
+    uint8_t nodes,
+    uint8_t source,
+    uint8_t sink,
+    uint64_t present,
+    const uint8_t first[CUTLIST_SLOTS],
+    const uint8_t second[CUTLIST_SLOTS],
+    const uint16_t metres[CUTLIST_SLOTS],
+    uint64_t *cuts, size_t cuts_length,
+    uint64_t *sides, size_t sides_length,
+    size_t *count);
+
+/*
  * Counts the rows of a list by width, the number of cables in the cut. It refuses nothing.
  *
  *   cuts, cuts_length  the list; any rows, or none
@@ -331,6 +355,16 @@ static inline uint8_t cutlist_plan_list(
     size_t *count)
 {
     return cutlist_list(CUTLIST_FIELDS(plan), cuts, cuts_length, sides, sides_length, count);
+}
+
+/* Lists the minimal cuts of a plan that was trimmed already, as cutlist_list_trimmed does. */
+static inline uint8_t cutlist_plan_list_trimmed(
+    const struct cutlist_plan *plan,
+    uint64_t *cuts, size_t cuts_length,
+    uint64_t *sides, size_t sides_length,
+    size_t *count)
+{
+    return cutlist_list_trimmed(CUTLIST_FIELDS(plan), cuts, cuts_length, sides, sides_length, count);
 }
 
 #undef CUTLIST_FIELDS

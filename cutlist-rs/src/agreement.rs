@@ -199,10 +199,10 @@ fn the_most_points_agree() {
         assert_eq!(number::<usize>(between(text, before, after)), most);
     }
     assert_eq!(8 * size_of::<NodeSet>(), most);
-    for parameter in ["*node_set", "*sides"] {
+    for (parameter, times) in [("*node_set", 2), ("*sides", 4)] {
         let typed = format!("uint{most}_t {parameter}");
-        assert_eq!(HEADER.matches(parameter).count(), 2, "{parameter}");
-        assert_eq!(HEADER.matches(&typed).count(), 2, "{typed}");
+        assert_eq!(HEADER.matches(parameter).count(), times, "{parameter}");
+        assert_eq!(HEADER.matches(&typed).count(), times, "{typed}");
     }
     let words = Refusal::BadNodeCount.to_string();
     assert_eq!(words, format!("point count not 2 to {most}"));

@@ -22,6 +22,10 @@
 //! let lines: Vec<String> = rows.iter().map(|row| row.to_string()).collect();
 //! assert_eq!(lines, ["0 1 | 0", "1 2 3 | 0 1", "0 2 4 | 0 2", "3 4 | 0 1 2"]);
 //!
+//! // Every point and every cable is useful. For a plan that was trimmed so already there is a call
+//! // that tests it, which takes less time than trimming it again, and lists the same.
+//! assert_eq!(plan.trimmed_mincuts(1000)?, rows);
+//!
 //! // Cables 0, 1 and 2 cut the room off, and one of them could be spared.
 //! assert_eq!(plan.classify(EdgeSet(0b00111))?, Verdict::NotMinimal);
 //!

@@ -7,6 +7,9 @@ use std::fmt;
 use crate::refusal::Refusal;
 use crate::sets::{EdgeSet, NodeSet};
 
+/// Rows lent at first when the number of cuts is unknown.
+const FIRST_ROWS: usize = 64;
+
 /// A minimal cut and its near side, the useful points that the server still reaches without it.
 #[derive(Clone, Copy, Debug, PartialEq, Eq, Hash)]
 pub struct Mincut {
@@ -27,24 +30,38 @@ impl fmt::Display for Mincut {
 /// is always at least one.
 #[derive(Clone, Debug, PartialEq, Eq)]
 pub struct Mincuts {
-    pub(crate) cuts: Vec<EdgeSet>,
-    pub(crate) sides: Vec<NodeSet>,
+    cuts: Vec<EdgeSet>,
+    sides: Vec<NodeSet>,
 }
 
 impl Mincuts {
-    /// So many rows to lend.
-    pub(crate) fn rows(count: usize) -> Result<Mincuts, TryReserveError> {
-        Ok(Mincuts {
-            cuts: empty_sets(count)?,
-            sides: empty_sets(count)?,
-        })
+    /// What a call lists into lent rows, if these are at most so many. It is lent few at first, and more
+    /// as long as it refuses for want of them; any other refusal is its answer at once.
+    pub(crate) fn listed(
+        most: usize,
+        call: impl Fn(&mut [EdgeSet], &mut [NodeSet]) -> Result<usize, Refusal>,
+    ) -> Result<Mincuts, ListError> {
+        let mut rows = most.min(FIRST_ROWS);
+        loop {
+            match Mincuts::listed_in(rows, &call) {
+                Err(ListError::Refused(Refusal::TooManyCuts)) if rows < most => {
+                    rows = rows.saturating_mul(2).min(most);
+                }
+                result => return result,
+            }
+        }
     }
 
-    /// The first so many rows alone.
-    pub(crate) fn first(mut self, count: usize) -> Mincuts {
-        self.cuts.truncate(count);
-        self.sides.truncate(count);
-        self
+    /// What a call lists into so many lent rows.
+    pub(crate) fn listed_in(
+        rows: usize,
+        call: impl Fn(&mut [EdgeSet], &mut [NodeSet]) -> Result<usize, Refusal>,
+    ) -> Result<Mincuts, ListError> {
+        let (mut cuts, mut sides) = (empty_sets(rows)?, empty_sets(rows)?);
+        let count = call(&mut cuts, &mut sides)?;
+        cuts.truncate(count);
+        sides.truncate(count);
+        Ok(Mincuts { cuts, sides })
     }
 
     /// The cuts.
@@ -108,6 +125,48 @@ impl Error for ListError {
         match self {
             ListError::Refused(_) => None,
             ListError::Memory(error) => Some(error),
+        }
+    }
+}
+
+#[cfg(test)]
+mod tests {
+    use std::cell::RefCell;
+
+    use super::*;
+
+    /// What a call lists that answers so to so many rows, and how many it was lent each time.
+    fn lent_to(
+        most: usize,
+        answer: impl Fn(usize) -> Result<usize, Refusal>,
+    ) -> (Result<usize, ListError>, Vec<usize>) {
+        let lent = RefCell::new(Vec::new());
+        let listed = Mincuts::listed(most, |cuts, sides| {
+            assert_eq!(cuts.len(), sides.len());
+            lent.borrow_mut().push(cuts.len());
+            answer(cuts.len())
+        });
+        (listed.map(|rows| rows.iter().len()), lent.into_inner())
+    }
+
+    #[test]
+    fn more_rows_are_lent_for_want_of_them_alone() {
+        let needs = |count| {
+            move |rows| match rows < count {
+                true => Err(Refusal::TooManyCuts),
+                false => Ok(count),
+            }
+        };
+        assert_eq!(lent_to(1000, needs(64)), (Ok(64), vec![64]));
+        assert_eq!(lent_to(1000, needs(65)), (Ok(65), vec![64, 128]));
+        assert_eq!(lent_to(150, needs(150)), (Ok(150), vec![64, 128, 150]));
+        let outnumbered = Err(ListError::Refused(Refusal::TooManyCuts));
+        assert_eq!(lent_to(150, needs(151)), (outnumbered, vec![64, 128, 150]));
+        for &refusal in Refusal::ALL {
+            if refusal != Refusal::TooManyCuts {
+                let refused = Err(ListError::Refused(refusal));
+                assert_eq!(lent_to(1000, |_| Err(refusal)), (refused, vec![64]));
+            }
         }
     }
 }

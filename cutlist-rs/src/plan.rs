@@ -11,9 +11,6 @@ use crate::sys::{self, Record};
 /// Bytes in the longest plan.
 pub(crate) const LONGEST: usize = 518;
 
-/// Rows lent at first when the number of cuts is unknown.
-const FIRST_ROWS: usize = 64;
-
 /// A plan without fault: points, one of them the server and one the room, and cables between them,
 /// of which some or all are measured.
 #[derive(Clone, Debug, PartialEq, Eq)]
@@ -246,28 +243,33 @@ impl Plan {
     /// bytes. If it is not there, that is an error too; a system that promises more than it has can
     /// still end the process once the rows are filled, so choose a bound that fits the machine.
     pub fn mincuts(&self, most: usize) -> Result<Mincuts, ListError> {
-        let mut rows = most.min(FIRST_ROWS);
-        loop {
-            match self.mincuts_in(rows) {
-                Err(ListError::Refused(Refusal::TooManyCuts)) if rows < most => {
-                    rows = rows.saturating_mul(2).min(most);
-                }
-                result => return result,
-            }
-        }
-    }
-
-    /// The minimal cuts, in memory for so many rows.
-    fn mincuts_in(&self, rows: usize) -> Result<Mincuts, ListError> {
-        let mut list = Mincuts::rows(rows)?;
-        let count = self.list_into(&mut list.cuts, &mut list.sides)?;
-        Ok(list.first(count))
+        Mincuts::listed(most, |cuts, sides| self.list_into(cuts, sides))
     }
 
     /// Lists the minimal cuts into lent rows, equally many for cuts and near sides, and gives how
     /// many there are. Later rows, and all of them on refusal, hold what they held.
     pub fn list_into(&self, cuts: &mut [EdgeSet], sides: &mut [NodeSet]) -> Result<usize, Refusal> {
         let (number, count) = sys::list(&self.0, cuts, sides);
+        answer(number, count)
+    }
+
+    /// The minimal cuts of a plan that was trimmed already, as [`Plan::mincuts`] gives them: for callers
+    /// that trim plans themselves. In place of trimming it is tested that every point and every cable
+    /// is useful, which takes less time; if one is not, a loop for instance, the plan is refused with
+    /// [`Refusal::NotTrimmed`], however many rows there may be.
+    pub fn trimmed_mincuts(&self, most: usize) -> Result<Mincuts, ListError> {
+        Mincuts::listed(most, |cuts, sides| self.list_trimmed_into(cuts, sides))
+    }
+
+    /// Lists the minimal cuts of a plan that was trimmed already into lent rows, as [`Plan::list_into`]
+    /// does. A plan that was not is refused with [`Refusal::NotTrimmed`], before
+    /// [`Refusal::RowsDiffer`] and [`Refusal::TooManyCuts`].
+    pub fn list_trimmed_into(
+        &self,
+        cuts: &mut [EdgeSet],
+        sides: &mut [NodeSet],
+    ) -> Result<usize, Refusal> {
+        let (number, count) = sys::list_trimmed(&self.0, cuts, sides);
         answer(number, count)
     }
 
@@ -610,7 +612,9 @@ mod tests {
     #[test]
     fn memory_that_is_not_there_is_an_error() {
         for rows in [usize::MAX, usize::MAX / 8, usize::MAX / 16] {
-            let error = bridge().mincuts_in(rows).expect_err("too much memory");
+            let plan = bridge();
+            let listed = Mincuts::listed_in(rows, |cuts, sides| plan.list_into(cuts, sides));
+            let error = listed.expect_err("too much memory");
             assert!(matches!(error, ListError::Memory(_)), "{error:?}");
         }
     }
@@ -635,6 +639,73 @@ mod tests {
             Err(Refusal::TooManyCuts)
         );
         assert_eq!((cuts, sides), ([EdgeSet(7); 4], [NodeSet(9); 4]));
+    }
+
+    const NOT_TRIMMED: Result<Mincuts, ListError> = Err(ListError::Refused(Refusal::NotTrimmed));
+
+    /// A spur, a block that hangs on one point, a point that hangs on nothing, a loop, and without a
+    /// route anything but two points.
+    fn untrimmed() -> Vec<Plan> {
+        vec![
+            hall(4, 2, &[(0, 1), (1, 2), (1, 3)]),
+            hall(5, 2, &[(0, 1), (1, 2), (1, 3), (3, 4), (4, 1)]),
+            hall(3, 1, &[(0, 1)]),
+            bridge().with_edge(63, 2, 2).expect("accepted"),
+            hall(2, 1, &[(0, 0)]),
+            hall(3, 2, &[(0, 1)]),
+            hall(3, 1, &[]),
+        ]
+    }
+
+    #[test]
+    fn a_trimmed_plan_is_listed_as_ever() {
+        for (plan, count) in [
+            (bridge(), 4),
+            (measured_bridge(), 4),
+            (hall(2, 1, &[]), 1),
+            (hall(2, 1, &[(0, 1); 64]), 1),
+            (two_hubs(8), 256),
+        ] {
+            let rows = plan.trimmed_mincuts(usize::MAX).expect("listed");
+            assert_eq!(rows.iter().len(), count);
+            assert_eq!(plan.mincuts(count).as_ref(), Ok(&rows));
+            assert_eq!(plan.trimmed_mincuts(count), Ok(rows));
+            assert_eq!(plan.trimmed_mincuts(count - 1), OUTNUMBERED);
+        }
+    }
+
+    #[test]
+    fn a_plan_that_was_not_trimmed_is_refused() {
+        for plan in untrimmed() {
+            for most in [0, 1, 64, usize::MAX] {
+                assert_eq!(plan.trimmed_mincuts(most), NOT_TRIMMED);
+            }
+            assert!(plan.mincuts(4).is_ok());
+        }
+        // No memory is asked for on behalf of rows that are not to be listed.
+        let hubs = two_hubs(30).with_edge(63, 31, 31).expect("accepted");
+        assert_eq!(hubs.trimmed_mincuts(usize::MAX), NOT_TRIMMED);
+        assert_eq!(two_hubs(30).trimmed_mincuts(100_000), OUTNUMBERED);
+    }
+
+    #[test]
+    fn lent_rows_of_a_trimmed_plan() {
+        let (mut cuts, mut sides) = ([EdgeSet(7); 5], [NodeSet(9); 5]);
+        for plan in untrimmed() {
+            for (cut_rows, side_rows) in [(5, 5), (0, 0), (5, 4), (0, 5)] {
+                let (cuts, sides) = (&mut cuts[..cut_rows], &mut sides[..side_rows]);
+                let refused = plan.list_trimmed_into(cuts, sides);
+                assert_eq!(refused, Err(Refusal::NotTrimmed));
+            }
+        }
+        let uneven = bridge().list_trimmed_into(&mut cuts, &mut sides[..3]);
+        assert_eq!(uneven, Err(Refusal::RowsDiffer));
+        let short = bridge().list_trimmed_into(&mut cuts[..3], &mut sides[..3]);
+        assert_eq!(short, Err(Refusal::TooManyCuts));
+        assert_eq!((cuts, sides), ([EdgeSet(7); 5], [NodeSet(9); 5]));
+        assert_eq!(bridge().list_trimmed_into(&mut cuts, &mut sides), Ok(4));
+        assert_eq!(cuts, [3, 14, 21, 24, 7].map(EdgeSet));
+        assert_eq!(sides, [1, 3, 5, 7, 9].map(NodeSet));
     }
 
     #[test]

@@ -109,7 +109,18 @@ on_a_record! {
         sides_length: usize,
         count: *mut usize
     );
+    fn cutlist_list_trimmed(
+        cuts: *mut u64,
+        cuts_length: usize,
+        sides: *mut u64,
+        sides_length: usize,
+        count: *mut usize
+    );
 }
+
+/// A call that lists into lent rows: each pointer must be valid for its type and length, and no two
+/// may overlap.
+type ListCall = unsafe fn(&Record, *mut u64, usize, *mut u64, usize, *mut usize) -> u8;
 
 /// Reads a plan.
 pub fn decode(plan: &[u8]) -> (u8, Record) {
@@ -171,11 +182,20 @@ pub fn metres(r: &Record, set: u64) -> (u8, u32) {
 
 /// Lists the minimal cuts into lent rows: the count.
 pub fn list(r: &Record, cuts: &mut [EdgeSet], sides: &mut [NodeSet]) -> (u8, usize) {
+    list_by(cutlist_list, r, cuts, sides)
+}
+
+/// The same for a record that was trimmed already.
+pub fn list_trimmed(r: &Record, cuts: &mut [EdgeSet], sides: &mut [NodeSet]) -> (u8, usize) {
+    list_by(cutlist_list_trimmed, r, cuts, sides)
+}
+
+fn list_by(call: ListCall, r: &Record, cuts: &mut [EdgeSet], sides: &mut [NodeSet]) -> (u8, usize) {
     let mut count = 0;
     // SAFETY: each pointer is valid for its type and length, and no two overlap. A set is laid out
     // as its number, being transparent.
     let refusal = unsafe {
-        cutlist_list(
+        call(
             r,
             cuts.as_mut_ptr().cast(),
             cuts.len(),

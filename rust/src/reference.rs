@@ -26,6 +26,7 @@ pub enum Refusal {
     AbsentEdgeNotZero = 13,
     EdgeNotPresent = 14,
     BufferTooShort = 15,
+    NotTrimmed = 26,
     BadLength = 28,
 }
 
