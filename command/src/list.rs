@@ -1,47 +1,16 @@
-//! `cutlist [FILE ..]`: the minimal cuts of each plan.
+//! `cutlist [FILE ..]`: the minimal cuts of each plan, by the list program.
 
-use std::ffi::{OsStr, OsString};
+use std::ffi::OsString;
 use std::io;
 use std::path::Path;
 
-use crate::input;
-use crate::output::{print, say, shown};
-use crate::program::{self, Answer};
+use crate::answer;
+use crate::program;
 use crate::status::Status;
 
-/// Lists the plans of the files, each below its name if there are several, and gives the largest
-/// status. An error is one of standard output; nothing is tried after it.
+/// Lists the plans of the files. An error is one of standard output.
 pub fn run(program: &Path, files: &[OsString]) -> io::Result<Status> {
-    let mut largest = Status::Done;
-    for file in files {
-        let heading = match files {
-            [_] => String::new(),
-            _ => format!("{}:\n", shown(file)),
-        };
-        largest = largest.max(list(program, file, heading)?);
-    }
-    Ok(largest)
-}
-
-/// Lists the plan of one file. Nothing is printed, the heading neither, unless there is an answer.
-fn list(program: &Path, file: &OsStr, heading: String) -> io::Result<Status> {
-    let name = shown(file);
-    let Some(plan) = input::plan(file) else {
-        return Ok(Status::Unread);
-    };
-    let printed = match program::run(program, &plan) {
-        Ok(printed) => printed,
-        Err(failure) => {
-            say(format_args!("{name}: the list program failed: {failure}"));
-            return Ok(Status::Lost);
-        }
-    };
-    print((heading + &printed.text).as_bytes())?;
-    Ok(match printed.answer {
-        Answer::Listed => Status::Done,
-        Answer::Refused(refusal) => {
-            say(format_args!("{name}: {refusal}"));
-            Status::Refused
-        }
+    answer::each(files, |plan| {
+        program::run(program, plan).map_err(|failure| format!("the list program failed: {failure}"))
     })
 }

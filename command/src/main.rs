@@ -3,12 +3,14 @@
 
 #![forbid(unsafe_code)]
 
+mod answer;
 mod input;
 mod list;
 mod metres;
 mod output;
 mod program;
 mod status;
+mod trimmed;
 
 use std::env;
 use std::ffi::OsString;
@@ -30,6 +32,8 @@ enum Asked {
     Help,
     /// The lists of these files.
     List(Vec<OsString>),
+    /// The same of files whose plans were trimmed already.
+    Trimmed(Vec<OsString>),
     /// The metres of these cables of a file, or of all that its plan has.
     Metres(OsString, Option<EdgeSet>),
 }
@@ -66,6 +70,7 @@ fn run() -> io::Result<Status> {
             }
             list::run(&root.join("target/bin/list"), &files)
         }
+        Ok(Asked::Trimmed(files)) => trimmed::run(&files),
         Ok(Asked::Metres(file, edges)) => metres::run(&file, edges),
     }
 }
@@ -74,24 +79,35 @@ fn run() -> io::Result<Status> {
 /// anywhere else, and after `--`, it is a file's name.
 fn asked(arguments: impl Iterator<Item = OsString>) -> Result<Asked, String> {
     let mut arguments = arguments.peekable();
-    let metres = arguments.next_if(|word| word == "metres").is_some();
+    let word = arguments.next_if(|word| word == "trimmed" || word == "metres");
     let Some(words) = words(arguments)? else {
         return Ok(Asked::Help);
     };
-    if !metres {
-        return match words.iter().filter(|&word| word == STANDARD).count() {
-            0 | 1 => Ok(Asked::List(words)),
-            _ => Err("standard input can be read only once".to_string()),
-        };
-    }
-    let Some((file, cables)) = words.split_first() else {
-        return Err("metres needs a FILE; a file of that name is listed as ./metres".to_string());
+    let Some(word) = word else {
+        return Ok(Asked::List(files(words)?));
     };
+    let Some((file, cables)) = words.split_first() else {
+        let word = word.display();
+        return Err(format!(
+            "{word} needs a FILE; a file of that name is listed as ./{word}"
+        ));
+    };
+    if word == "trimmed" {
+        return Ok(Asked::Trimmed(files(words)?));
+    }
     let edges = match cables {
         [] => None,
         _ => Some(metres::edges(cables)?),
     };
     Ok(Asked::Metres(file.clone(), edges))
+}
+
+/// Words that are names of files, of which standard input may be one.
+fn files(words: Vec<OsString>) -> Result<Vec<OsString>, String> {
+    match words.iter().filter(|&word| word == STANDARD).count() {
+        0 | 1 => Ok(words),
+        _ => Err("standard input can be read only once".to_string()),
+    }
 }
 
 /// The arguments that are no options, `None` if help is asked for. An option may stand among them, up

@@ -1,12 +1,13 @@
 //! `cutlist metres FILE [CABLE ..]`: the metres of these cables of a plan, or of all that it has.
 
-use std::ffi::{OsStr, OsString};
+use std::ffi::OsString;
 use std::io;
+use std::slice;
 
 use cutlist::{EdgeSet, Plan, Refusal};
 
-use crate::input;
-use crate::output::{print, say, shown};
+use crate::answer::{self, Answer};
+use crate::output::shown;
 use crate::program::decimal;
 use crate::status::Status;
 
@@ -15,30 +16,12 @@ const SLOTS: usize = 64;
 
 /// Adds up the metres of a plan's cables, of all of them if there is no set. An error is one of
 /// standard output.
-pub fn run(file: &OsStr, edges: Option<EdgeSet>) -> io::Result<Status> {
-    let Some(plan) = input::plan(file) else {
-        return Ok(Status::Unread);
-    };
-    match answer(&plan, edges) {
-        Ok(text) => {
-            print(text.as_bytes())?;
-            Ok(Status::Done)
-        }
-        // A number that is no known refusal is no answer.
-        Err(unknown) if Refusal::from_number(unknown.number()).is_none() => {
-            say(format_args!("{}: {unknown}", shown(file)));
-            Ok(Status::Lost)
-        }
-        Err(refusal) => {
-            print(format!("refused {}\n", refusal.number()).as_bytes())?;
-            say(format_args!("{}: {refusal}", shown(file)));
-            Ok(Status::Refused)
-        }
-    }
+pub fn run(file: &OsString, edges: Option<EdgeSet>) -> io::Result<Status> {
+    answer::each(slice::from_ref(file), |plan| Answer::of(total(plan, edges)))
 }
 
 /// The total, and the cables that it lacks, if there are any.
-fn answer(plan: &[u8], edges: Option<EdgeSet>) -> Result<String, Refusal> {
+fn total(plan: &[u8], edges: Option<EdgeSet>) -> Result<String, Refusal> {
     let plan = Plan::decode(plan)?;
     let edges = edges.unwrap_or(plan.present());
     let total = format!("metres {}\n", plan.metres(edges)?);
@@ -85,7 +68,7 @@ mod tests {
     }
 
     fn told(edges: Option<u64>) -> Result<String, Refusal> {
-        answer(&PLAN, edges.map(EdgeSet))
+        total(&PLAN, edges.map(EdgeSet))
     }
 
     #[test]
@@ -97,7 +80,7 @@ mod tests {
         assert_eq!(told(Some(1)), Ok("metres 0\nunmeasured 0\n".to_string()));
         assert_eq!(told(Some(0)), Ok("metres 0\n".to_string()));
         assert_eq!(told(Some(4)), Err(Refusal::EdgeNotPresent));
-        assert_eq!(answer(&PLAN[..25], None), Err(Refusal::Truncated));
+        assert_eq!(total(&PLAN[..25], None), Err(Refusal::Truncated));
     }
 
     #[test]

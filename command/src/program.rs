@@ -7,29 +7,14 @@ use std::process::{Command, Stdio};
 
 use cutlist::Refusal;
 
+use crate::answer::Answer;
+
 /// How many bytes decide any plan: the list program reads no more.
 pub const DECIDING: usize = 521;
 
-/// What the list program printed, found whole.
-pub struct Printed {
-    /// Every line of it.
-    pub text: String,
-    /// What it says.
-    pub answer: Answer,
-}
-
-/// What the list program says of a plan.
-#[derive(Debug, PartialEq, Eq)]
-pub enum Answer {
-    /// A complete list.
-    Listed,
-    /// Why there is none.
-    Refused(Refusal),
-}
-
 /// Runs the list program on a plan's first bytes. It must read them, end well, say nothing on
 /// standard error and print a whole answer; the error says what it did instead.
-pub fn run(program: &Path, plan: &[u8]) -> Result<Printed, String> {
+pub fn run(program: &Path, plan: &[u8]) -> Result<Answer, String> {
     let mut child = Command::new(program)
         .stdin(Stdio::piped())
         .stdout(Stdio::piped())
@@ -52,11 +37,8 @@ pub fn run(program: &Path, plan: &[u8]) -> Result<Printed, String> {
     }
     fed.map_err(|error| format!("it did not take the plan: {error}"))?;
     // What is not text does not become an answer by what stands in its place.
-    let text = String::from_utf8_lossy(&output.stdout).into_owned();
-    match answer(&text) {
-        Some(answer) => Ok(Printed { text, answer }),
-        None => Err("it printed neither a whole list nor a refusal".to_string()),
-    }
+    let text = String::from_utf8_lossy(&output.stdout);
+    answer(&text).ok_or_else(|| "it printed neither a whole list nor a refusal".to_string())
 }
 
 /// What a text says, if it is whole: `cuts` and a number, and as many rows; or `refused` and the
@@ -68,7 +50,7 @@ fn answer(text: &str) -> Option<Answer> {
     let rows: Vec<&str> = lines.collect();
     match word {
         "cuts" if number > 0 && number == rows.len() && rows.iter().all(|row| is_row(row)) => {
-            Some(Answer::Listed)
+            Some(Answer::Given(text.to_string()))
         }
         "refused" if rows.is_empty() => {
             let number = u8::try_from(number).ok()?;
@@ -107,9 +89,9 @@ mod tests {
 
     #[test]
     fn a_whole_list_is_taken() {
-        assert_eq!(answer(BRIDGE), Some(Answer::Listed));
-        assert_eq!(answer("cuts 1\n- | 4\n"), Some(Answer::Listed));
-        assert_eq!(answer("cuts 1\n0 63 | 0 63\n"), Some(Answer::Listed));
+        for list in [BRIDGE, "cuts 1\n- | 4\n", "cuts 1\n0 63 | 0 63\n"] {
+            assert_eq!(answer(list), Some(Answer::Given(list.to_string())));
+        }
     }
 
     #[test]

@@ -27,6 +27,10 @@ const DECIDING_PROVED: &str = include_str!("../../crates/format/proofs/Prefix.an
 const DECIDING_READ: &str = include_str!("../../crates/report/src/lib.rt");
 const DECIDING_FED: &str = include_str!("../../command/src/program.rs");
 
+/// The most rows of the list program, and of the command where it lists by itself.
+const ROWS_PRINTED: &str = include_str!("../../crates/text/src/lib.rt");
+const ROWS_LISTED: &str = include_str!("../../command/src/trimmed.rs");
+
 /// Names by number, as the library has them: EDGE_NOT_PRESENT.
 type Names = BTreeMap<u8, String>;
 
@@ -231,4 +235,7 @@ fn sizes_agree() {
         let stated = between(text, "const DECIDING: usize = ", ";");
         assert_eq!(number::<usize>(stated), deciding);
     }
+
+    let rows = |text| number::<usize>(between(text, "const MAX_ROWS: usize = ", ";"));
+    assert_eq!(rows(ROWS_LISTED), rows(ROWS_PRINTED));
 }

@@ -104,3 +104,26 @@ fn a_hall_that_is_refused_by_its_name_is_refused_so() {
     }
     assert!(seen >= 9, "{seen}");
 }
+
+/// The halls of which some point or cable is not useful.
+const UNTRIMMED: [&str; 4] = ["hanging-triangle", "no-route", "patch-loops", "spur"];
+
+#[test]
+fn every_hall_that_is_trimmed_is_listed_as_such() {
+    let mut refused = vec![];
+    for hall in halls() {
+        let (listed, trimmed) = (
+            cutlist(&[&hall]),
+            run(Command::new(script()).arg("trimmed").arg(&hall)),
+        );
+        if listed.status == Some(0) && trimmed.status == Some(1) {
+            trimmed.refused(26, "some point or present cable is not useful");
+            let name = hall.file_stem().expect("a name").to_str().expect("text");
+            refused.push(name.to_string());
+            continue;
+        }
+        assert_eq!((trimmed.status, trimmed.out), (listed.status, listed.out));
+        assert_eq!(trimmed.err, listed.err);
+    }
+    assert_eq!(refused, UNTRIMMED);
+}

@@ -8,4 +8,5 @@ mod program;
 mod running;
 mod streams;
 mod text;
+mod trimmed;
 mod usage;

@@ -19,6 +19,8 @@ fn help_is_printed_wherever_it_is_asked_for() {
         &["-h", "-x"],
         &["metres", "-h"],
         &["metres", "missing", "64", "--help"],
+        &["trimmed", "-h"],
+        &["trimmed", "missing", "-", "-", "--help"],
     ] {
         words(asked).listed(usage);
     }
@@ -30,6 +32,7 @@ fn an_unknown_option_is_a_wrong_use() {
         words(&[option]).failed(2, &["unknown option ", option, "Usage: cutlist [FILE ..]"]);
         words(&["missing", option]).failed(2, &["unknown option ", option]);
         words(&["metres", "missing", option]).failed(2, &["unknown option ", option]);
+        words(&["trimmed", "missing", option]).failed(2, &["unknown option ", option]);
     }
 }
 
