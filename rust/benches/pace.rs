@@ -152,8 +152,7 @@ fn loaded(file: &str) -> Build {
         let name = CString::new(name).expect("a name");
         // SAFETY: the object stays loaded, and the name ends with its only 0.
         let place = unsafe { dlsym(object, name.as_ptr()) };
-        assert!(!place.is_null(), "{file} lacks {name:?}");
-        place.cast_const().cast()
+        (!place.is_null()).then_some(place.cast_const().cast())
     };
     // SAFETY: the object is a build of the library, and its calls are as the header declares them.
     unsafe { Build::loaded(place_of) }

@@ -119,8 +119,44 @@ pub fn list(
     cuts_before: &[u64],
     sides_before: &[Nodes],
 ) -> u8 {
-    let fits = rows.filter(|rows| rows.len() <= cuts_before.len());
+    let fault = reference::number(&reference::fault(record));
+    list_by(sys::list, fault, record, rows, cuts_before, sides_before)
+}
+
+/// The same for a record that was trimmed already: if it has no fault, `part` is its useful part, and
+/// it is listed if that is all of it.
+pub fn list_trimmed(
+    record: &Record,
+    part: Part,
+    rows: Option<&[Row]>,
+    cuts_before: &[u64],
+    sides_before: &[Nodes],
+) -> u8 {
     let number = match reference::number(&reference::fault(record)) {
+        0 if part != record.whole() => Refusal::NotTrimmed as u8,
+        number => number,
+    };
+    list_by(
+        sys::list_trimmed,
+        number,
+        record,
+        rows,
+        cuts_before,
+        sides_before,
+    )
+}
+
+/// Lists by a call that refuses the record with this number, 0 if it does not.
+fn list_by(
+    call: impl Fn(&Record, &mut [u64], &mut [Nodes]) -> (u8, usize),
+    refusal: u8,
+    record: &Record,
+    rows: Option<&[Row]>,
+    cuts_before: &[u64],
+    sides_before: &[Nodes],
+) -> u8 {
+    let fits = rows.filter(|rows| rows.len() <= cuts_before.len());
+    let number = match refusal {
         0 if cuts_before.len() != sides_before.len() => Refusal::RowsDiffer as u8,
         0 if fits.is_none() => Refusal::TooManyCuts as u8,
         number => number,
@@ -136,7 +172,7 @@ pub fn list(
 
     let mut cuts = cuts_before.to_vec();
     let mut sides = sides_before.to_vec();
-    let answer = sys::list(record, &mut cuts, &mut sides);
+    let answer = call(record, &mut cuts, &mut sides);
     assert_eq!(answer, (number, count), "record {record:?}");
     assert_rows("cut", &cuts, &expected_cuts, record);
     assert_rows("side", &sides, &expected_sides, record);
@@ -144,9 +180,13 @@ pub fn list(
 }
 
 /// Finds this useful part and this list of a record without fault, with the rows needed, with more,
-/// with one less and with different numbers of them; the ordinary lister finds the same.
+/// with one less and with different numbers of them, and lists it so by the call for trimmed records if
+/// it is one; ordinary Rust finds the same.
 pub fn part_and_list(rng: &mut Rng, record: &Record, part: Part, rows: &[Row]) {
     assert_eq!(relevant(record, part), 0);
+    assert_eq!(ordinary::relevant(record), Ok(part), "{record:?}");
+    let trimmed = part == record.whole();
+    assert_eq!(ordinary::trimmed(record), trimmed, "{record:?}");
 
     let count = rows.len();
     let many = count + 1 + rng.below(20);
@@ -158,12 +198,28 @@ pub fn part_and_list(rng: &mut Rng, record: &Record, part: Part, rows: &[Row]) {
     ] {
         let (cuts, sides) = lent::stale_rows(rng, cut_rows, side_rows);
         assert_eq!(list(record, Some(rows), &cuts, &sides), number);
+        let number = if trimmed { number } else { 26 };
+        let answer = list_trimmed(record, part, Some(rows), &cuts, &sides);
+        assert_eq!(answer, number);
     }
+
+    let listed = |answer, cuts: Vec<u64>, sides: Vec<Nodes>| {
+        assert_eq!(answer, Ok(count), "{record:?}");
+        let listed = cuts.into_iter().zip(sides);
+        let listed: Vec<Row> = listed.map(|(cut, side)| Row { cut, side }).collect();
+        assert_eq!(listed, rows, "{record:?}");
+    };
     let (mut cuts, mut sides) = lent::stale_rows(rng, count, count);
-    assert_eq!(ordinary::list(record, &mut cuts, &mut sides), Ok(count));
-    let listed = cuts.into_iter().zip(sides);
-    let listed: Vec<Row> = listed.map(|(cut, side)| Row { cut, side }).collect();
-    assert_eq!(listed, rows, "{record:?}");
+    let answer = ordinary::list(record, &mut cuts, &mut sides);
+    listed(answer, cuts, sides);
+    let (mut cuts, mut sides) = lent::stale_rows(rng, count, count);
+    match (
+        trimmed,
+        ordinary::list_trimmed(record, &mut cuts, &mut sides),
+    ) {
+        (true, answer) => listed(answer, cuts, sides),
+        (false, answer) => assert_eq!(answer, Err(26), "{record:?}"),
+    }
 }
 
 fn assert_rows<T: PartialEq + LowerHex>(kind: &str, rows: &[T], expected: &[T], record: &Record) {

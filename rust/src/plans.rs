@@ -1,7 +1,8 @@
 //! Random records, and damage to plans and records. Lengths are drawn apart, in `lengths`, so that a
 //! plan is otherwise the same with and without them.
 
-use crate::answers::Nodes;
+use crate::answers::{Nodes, Part, Row};
+use crate::brute::members;
 use crate::halls;
 use crate::lengths;
 use crate::record::{Record, MOST_NODES, SLOTS};
@@ -153,6 +154,11 @@ pub fn renamed(rng: &mut Rng, record: &Record) -> Record {
 pub fn renumbered(rng: &mut Rng, record: &Record) -> Record {
     let mut slots: Vec<usize> = (0..SLOTS).collect();
     rng.shuffle(&mut slots);
+    under_slots(record, &slots)
+}
+
+/// The plan with these numbers for its cables.
+fn under_slots(record: &Record, slots: &[usize]) -> Record {
     let bare = Record::bare(record.nodes, record.source, record.sink);
     record.edges().fold(bare, |other, edge| {
         other
@@ -168,6 +174,93 @@ pub fn spread(rng: &mut Rng, record: &Record) -> (Record, Vec<u8>) {
     rng.shuffle(&mut names);
     let spread = under_names(rng, record, MOST_NODES, &names);
     (spread, names)
+}
+
+/// The numbers that points and cables have in another plan.
+pub struct Numbers {
+    nodes: Vec<u8>,
+    edges: Vec<usize>,
+}
+
+impl Numbers {
+    /// The rows of a list under these numbers, rising again.
+    pub fn of(&self, rows: &[Row]) -> Vec<Row> {
+        let nodes = |set| members(set).fold(0, |named, node| named | 1 << self.nodes[node]);
+        let edges = |set| members(set).fold(0, |named, edge| named | 1 << self.edges[edge]);
+        let named = rows.iter().map(|row| Row {
+            cut: edges(row.cut),
+            side: nodes(row.side),
+        });
+        let mut named: Vec<Row> = named.collect();
+        named.sort_unstable();
+        named
+    }
+}
+
+/// The plan cut down to its useful part, its points under any numbers below their count, its cables
+/// under their own numbers or under any.
+pub fn trimmed(rng: &mut Rng, record: &Record, part: Part) -> (Record, Numbers) {
+    let mut names: Vec<u8> = (0..part.nodes.count_ones() as u8).collect();
+    rng.shuffle(&mut names);
+    let mut nodes = vec![0; record.nodes.into()];
+    for (node, &name) in members(part.nodes).zip(&names) {
+        nodes[node] = name;
+    }
+    let mut edges: Vec<usize> = (0..SLOTS).collect();
+    if rng.once_in(2) {
+        rng.shuffle(&mut edges);
+    }
+    let useful = record.clone().without(!part.edges);
+    let trimmed = under_slots(
+        &under_names(rng, &useful, names.len() as u8, &nodes),
+        &edges,
+    );
+    (trimmed, Numbers { nodes, edges })
+}
+
+/// What hangs on one point of a plan or on nothing, and so is not useful: new points, and cables, whose
+/// ends are 0 for that point and 1, 2 .. for the new ones.
+pub const HANGING: [(u8, &[(u8, u8)]); 8] = [
+    // A loop, and a point with nothing.
+    (0, &[(0, 0)]),
+    (1, &[]),
+    // A point by one cable and by two, and two points in a line.
+    (1, &[(0, 1)]),
+    (1, &[(0, 1), (1, 0)]),
+    (2, &[(0, 1), (1, 2)]),
+    // A triangle.
+    (2, &[(0, 1), (1, 2), (2, 0)]),
+    // Points that hang together, and on nothing else.
+    (2, &[(1, 2)]),
+    (3, &[(1, 2), (2, 3), (3, 1)]),
+];
+
+/// The plan with such a part at one of its points: the new points come last, the cables have any free
+/// numbers. `None` if it has too many points or cables for that.
+pub fn with_hanging(
+    rng: &mut Rng,
+    record: &Record,
+    (points, cables): (u8, &[(u8, u8)]),
+) -> Option<Record> {
+    let nodes = record.nodes + points;
+    let mut free: Vec<usize> = (0..SLOTS).filter(|&slot| !record.holds(slot)).collect();
+    if nodes > MOST_NODES || free.len() < cables.len() {
+        return None;
+    }
+    rng.shuffle(&mut free);
+    let hook = rng.below(record.nodes.into()) as u8;
+    let place = |node: u8| match node {
+        0 => hook,
+        _ => record.nodes + node - 1,
+    };
+    let more = Record {
+        nodes,
+        ..record.clone()
+    };
+    let ends = free.into_iter().zip(cables);
+    Some(ends.fold(more, |plan, (slot, &(one, other))| {
+        plan.with(slot, place(one), place(other))
+    }))
 }
 
 /// The plan with these names for its points, among so many, with the ends of some cables exchanged.

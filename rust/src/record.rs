@@ -2,6 +2,8 @@
 
 use std::fmt;
 
+use crate::answers::{Nodes, Part};
+
 /// The most nodes (points).
 pub const MOST_NODES: u8 = 64;
 
@@ -77,6 +79,14 @@ impl Record {
     /// The edges present, rising.
     pub fn edges(&self) -> impl Iterator<Item = usize> + '_ {
         (0..SLOTS).filter(|&edge| self.holds(edge))
+    }
+
+    /// All nodes and all edges present, of a record without fault: its useful part if it is trimmed.
+    pub fn whole(&self) -> Part {
+        Part {
+            nodes: Nodes::MAX >> (MOST_NODES - self.nodes),
+            edges: self.present,
+        }
     }
 
     /// The loops: the edges present with both ends at one node.

@@ -67,28 +67,28 @@ pub mod capi {
                 }
             }
 
-            /// The calls on a record in one build of the library.
+            /// The calls on a record in one build of the library. An earlier build lacks those that
+            /// came later.
             pub struct Build {
-                $($name: call!($($type),*),)*
+                $($name: Option<call!($($type),*)>,)*
             }
 
             impl Build {
                 /// The build that is linked.
-                pub const LINKED: Build = Build { $($name: on_fields::$name,)* };
+                pub const LINKED: Build = Build { $($name: Some(on_fields::$name),)* };
 
                 /// Another build, which is loaded, by where its calls stand.
                 ///
                 /// # Safety
                 ///
                 /// At each place stands the call of that name.
-                pub unsafe fn loaded(place_of: impl Fn(&str) -> *const ()) -> Build {
+                pub unsafe fn loaded(place_of: impl Fn(&str) -> Option<*const ()>) -> Build {
                     Build {
                         $(
-                            $name: {
-                                let place = place_of(stringify!($name));
+                            $name: place_of(stringify!($name)).map(|place| {
                                 assert_ne!(place, on_fields::$name as *const (), "linked, not loaded");
                                 mem::transmute::<*const (), call!($($type),*)>(place)
-                            },
+                            }),
                         )*
                     }
                 }
@@ -99,7 +99,8 @@ pub mod capi {
                     /// Each pointer is valid for its type and length, and no two overlap.
                     #[inline]
                     pub unsafe fn $name(&self, r: *const Record, $($more: $type),*) -> u8 {
-                        (self.$name)(
+                        let call = self.$name.expect(concat!("a build with ", stringify!($name)));
+                        call(
                             (*r).nodes,
                             (*r).source,
                             (*r).sink,
@@ -138,8 +139,20 @@ pub mod capi {
             side_rows: usize,
             count: *mut usize
         );
+        fn cutlist_list_trimmed(
+            cuts: *mut u64,
+            cut_rows: usize,
+            sides: *mut Nodes,
+            side_rows: usize,
+            count: *mut usize
+        );
     }
 }
+
+/// A call that lists into lent rows: of the build that is linked, and of any.
+type ListCall = unsafe fn(*const Record, *mut u64, usize, *mut Nodes, usize, *mut usize) -> u8;
+type BuildListCall =
+    unsafe fn(&Build, *const Record, *mut u64, usize, *mut Nodes, usize, *mut usize) -> u8;
 
 /// What out parameters hold before a call, so that one left unwritten shows.
 const STALE: u8 = 0xEE;
@@ -297,13 +310,22 @@ pub fn metres(record: &Record, set: u64) -> (u8, u32) {
 
 /// Lists the minimal cuts into lent rows: the refusal number and the count.
 pub fn list(record: &Record, cuts: &mut [u64], sides: &mut [Nodes]) -> (u8, usize) {
+    list_by(capi::cutlist_list, record, cuts, sides)
+}
+
+/// The same for a record that was trimmed already.
+pub fn list_trimmed(record: &Record, cuts: &mut [u64], sides: &mut [Nodes]) -> (u8, usize) {
+    list_by(capi::cutlist_list_trimmed, record, cuts, sides)
+}
+
+fn list_by(call: ListCall, record: &Record, cuts: &mut [u64], sides: &mut [Nodes]) -> (u8, usize) {
     let mut lent_cuts = Rows::new(cuts);
     let mut lent_sides = Rows::new(sides);
     let mut count = Guarded::new(usize::from_ne_bytes([STALE; size_of::<usize>()]));
 
     // SAFETY: each pointer is valid for its type and length, and no two overlap.
     let refusal = on_a_copy(record, |r| unsafe {
-        capi::cutlist_list(
+        call(
             r,
             lent_cuts.place(),
             cuts.len(),
@@ -325,11 +347,33 @@ pub fn list_bare(
     cuts: &mut [u64],
     sides: &mut [Nodes],
 ) -> (u8, usize) {
+    list_bare_by(Build::cutlist_list, build, record, cuts, sides)
+}
+
+/// The same for a record that was trimmed already.
+pub fn list_trimmed_bare(
+    build: &Build,
+    record: &Record,
+    cuts: &mut [u64],
+    sides: &mut [Nodes],
+) -> (u8, usize) {
+    list_bare_by(Build::cutlist_list_trimmed, build, record, cuts, sides)
+}
+
+#[inline(always)]
+fn list_bare_by(
+    call: BuildListCall,
+    build: &Build,
+    record: &Record,
+    cuts: &mut [u64],
+    sides: &mut [Nodes],
+) -> (u8, usize) {
     let mut count = 0;
 
     // SAFETY: each pointer is valid for its type and length, and no two overlap.
     let refusal = unsafe {
-        build.cutlist_list(
+        call(
+            build,
             record,
             cuts.as_mut_ptr(),
             cuts.len(),

@@ -9,7 +9,7 @@ use std::process::Command;
 
 use cutlist_tests::fuzz::case::{self, Case, Size, FIELDS, FITTED, HEAD, RAW};
 use cutlist_tests::fuzz::counts::{Counts, FAR};
-use cutlist_tests::fuzz::digest::digest;
+use cutlist_tests::fuzz::digest::{digest, trimmed_digest};
 use cutlist_tests::fuzz::search::{panic_of, search};
 use cutlist_tests::fuzz::shrinking::shrink;
 use cutlist_tests::fuzz::{making, questions};
@@ -111,6 +111,30 @@ fn a_wrong_total_is_found_and_shrunk() {
     assert_eq!(record.metres.into_iter().map(u32::from).sum::<u32>(), 256);
 }
 
+/// A wrong claim about trimmed plans: that none has more than two points.
+fn ask_with_a_wrong_trimmed_plan(bytes: &[u8], counts: &mut Counts) {
+    questions::ask(bytes, counts);
+    let record = Case::of(bytes).record;
+    // Different numbers of rows: 11 if the plan is trimmed.
+    let (refusal, _) = sys::list_trimmed(&record, &mut [0], &mut []);
+    assert!(refusal != 11 || record.nodes == 2, "a plan is trimmed");
+}
+
+#[test]
+fn a_wrong_trimmed_plan_is_found_and_shrunk() {
+    let found = search(cases(93, 1_000), ask_with_a_wrong_trimmed_plan).expect_err("three points");
+    assert_eq!(found.message, "a plan is trimmed");
+    let wrong = |bytes: &[u8]| {
+        panic_of(|| ask_with_a_wrong_trimmed_plan(bytes, &mut Counts::default())).is_some()
+    };
+    let shrunk = shrink(&found.bytes, 10_000, wrong);
+    assert!(wrong(&shrunk));
+    // Nothing is left but a short line: no cable can be spared, and no point without one.
+    let record = Case::of(&shrunk).record;
+    assert_eq!(record.present.count_ones() + 1, record.nodes.into());
+    assert!(record.nodes <= 5, "{record:?}");
+}
+
 #[test]
 fn shrinking_ends_after_so_many_tries() {
     let tries = Cell::new(0);
@@ -160,6 +184,7 @@ fn every_byte_string_is_a_case() {
     assert!(counts.classify.total() >= counts.cases);
     assert!(counts.metres.total() >= counts.cases);
     assert!(counts.list.total() >= counts.cases);
+    assert_eq!(counts.list_trimmed.total(), counts.list.total());
     assert!(counts.widths >= counts.cases);
 }
 
@@ -208,6 +233,21 @@ fn lengths_are_drawn_apart() {
     }
     assert!(same > 2_000 && measured > 3_000, "{same} {measured}");
     assert!(without > 8_000, "{without}");
+}
+
+/// The lists of trimmed plans have a number of their own, of the plan as it is and cut down.
+#[test]
+fn the_digest_of_trimmed_plans() {
+    let bridge = halls::bridge();
+    let digest_of = |hall: &Record| trimmed_digest([with_head(FITTED, &plans::bytes(hall))]);
+    let looped = bridge.clone().with(63, 0, 0);
+    let other = bridge.clone().with(63, 0, 3);
+    let mut numbers = [&bridge, &looped, &other].map(digest_of);
+    numbers.sort_unstable();
+    assert!(numbers.windows(2).all(|pair| pair[0] != pair[1]));
+    // Metres change nothing.
+    let measured = bridge.clone().with_metres(4, 300);
+    assert_eq!(digest_of(&measured), digest_of(&bridge));
 }
 
 /// The digest is of the totals too, and of every length that is read.
@@ -288,6 +328,10 @@ fn cases_of_every_kind_are_made() {
                 far && record.edges().filter(|&edge| steps(edge) == 1).count() < 10,
             ),
             ("a loop", fit && record.loops() != 0),
+            (
+                "a trimmed plan",
+                fit && sides::relevant(record) == record.whole(),
+            ),
             ("a measured cable", fit && record.measured() != 0),
             ("all cables measured", fit && record.measured() == u64::MAX),
             (
@@ -430,6 +474,11 @@ fn the_command() {
     assert_eq!((code, text), (Some(0), format!("{without:016x}\n")));
     assert_ne!(without, number);
 
+    let (code, text) = run(&["--digest", "--trimmed", "--seed", "88", "--cases", "7"]);
+    let trimmed = trimmed_digest(cases(88, 7).map(|(_, bytes)| bytes));
+    assert_eq!((code, text), (Some(0), format!("{trimmed:016x}\n")));
+    assert_ne!(trimmed, number);
+
     let file = Path::new(env!("CARGO_TARGET_TMPDIR")).join("fuzz-replay");
     fs::write(&file, making::bytes(88, 7)).expect("a file");
     let (code, text) = run(&["--replay", file.to_str().expect("text")]);
@@ -439,6 +488,7 @@ fn the_command() {
     for wrong in [
         &["--replay", "/no/such/file"][..],
         &["--cases"],
+        &["--trimmed"],
         &["--without-loops"],
         &["--without-lengths"],
         &["-x"],

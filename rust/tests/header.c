@@ -66,6 +66,20 @@ int main(void)
     CHECK(memcmp(cuts, cuts_listed, sizeof cuts) == 0);
     CHECK(memcmp(sides, sides_listed, sizeof sides) == 0);
 
+    /* The list of a trimmed plan: the same rows, over what the list left. */
+    cuts[0] = sides[0] = 99;
+    CHECK(cutlist_plan_list_trimmed(&plan, cuts, 5, sides, 4, &count) == CUTLIST_ROWS_DIFFER && count == 0);
+    CHECK(cutlist_plan_list_trimmed(&plan, cuts, 3, sides, 3, &count) == CUTLIST_TOO_MANY_CUTS && count == 0);
+    CHECK(cuts[0] == 99 && sides[0] == 99);
+    CHECK(cutlist_plan_list_trimmed(&plan, cuts, 5, sides, 5, &count) == CUTLIST_ACCEPTED && count == 4);
+    CHECK(memcmp(cuts, cuts_listed, sizeof cuts) == 0);
+    CHECK(memcmp(sides, sides_listed, sizeof sides) == 0);
+    plan.nodes = 5;
+    CHECK(cutlist_plan_list_trimmed(&plan, cuts, 5, sides, 4, &count) == CUTLIST_NOT_TRIMMED && count == 0);
+    CHECK(cutlist_plan_list_trimmed(&plan, cuts, 0, sides, 0, &count) == CUTLIST_NOT_TRIMMED && count == 0);
+    CHECK(memcmp(cuts, cuts_listed, sizeof cuts) == 0);
+    plan.nodes = 4;
+
     /* Lengths: in the struct, in bytes, and of sets. */
     plan.metres[0] = 7;
     plan.metres[1] = 25;
@@ -98,5 +112,12 @@ int main(void)
     CHECK(cutlist_plan_fault(&plan) == CUTLIST_ACCEPTED);
     CHECK(cutlist_plan_relevant(&plan, &nodes, &edges) == CUTLIST_ACCEPTED);
     CHECK(nodes == 3 && edges == 0);
+    CHECK(cutlist_plan_list_trimmed(&plan, cuts, 5, sides, 5, &count) == CUTLIST_NOT_TRIMMED && count == 0);
+
+    /* Two points without a cable, which are trimmed. */
+    plan.present = 0;
+    plan.first[63] = plan.second[63] = 0;
+    CHECK(cutlist_plan_list_trimmed(&plan, cuts, 1, sides, 1, &count) == CUTLIST_ACCEPTED && count == 1);
+    CHECK(cuts[0] == 0 && sides[0] == 1);
     return 0;
 }

@@ -1,8 +1,9 @@
-//! The list call: every row and every lent word, against brute force and against a second lister.
+//! The list call: every row and every lent word, against brute force and against a second lister. What
+//! is trimmed is listed so by the call for trimmed plans, and what is not is refused by it.
 
 use std::time::{Duration, Instant};
 
-use cutlist_tests::answers::{Nodes, Row};
+use cutlist_tests::answers::{Nodes, Part, Row};
 use cutlist_tests::halls;
 use cutlist_tests::lent;
 use cutlist_tests::plans;
@@ -10,11 +11,16 @@ use cutlist_tests::record::{Record, MOST_NODES};
 use cutlist_tests::reference::FAULTS;
 use cutlist_tests::rng::Rng;
 use cutlist_tests::tally::Tally;
-use cutlist_tests::{brute, compare, ordinary, sides, sys};
+use cutlist_tests::{brute, compare, ordinary, reference, sides, sys};
 
 /// Lists with so many cut rows and side rows lent.
 fn list_with(rng: &mut Rng, record: &Record, rows: &[Row], cuts: usize, sides: usize) -> u8 {
     let (cuts, sides) = lent::stale_rows(rng, cuts, sides);
+    let part = match reference::fault(record) {
+        Ok(()) => sides::relevant(record),
+        Err(_) => Part::default(),
+    };
+    compare::list_trimmed(record, part, Some(rows), &cuts, &sides);
     compare::list(record, Some(rows), &cuts, &sides)
 }
 
@@ -449,7 +455,7 @@ fn lists_about_as_long_as_what_is_kept() {
                 for lent in [near - 1, near, near + 1] {
                     let number = list_with(&mut rng, hall, rows, lent, lent);
                     assert_eq!(number, if lent < rows.len() { 12 } else { 0 });
-                    assert_eq!(ordinary_with(&mut rng, hall, lent, lent), number);
+                    assert_eq!(ordinary_with(&mut rng, hall, lent, lent).0, number);
                     tally.count(number);
                 }
             }
@@ -637,34 +643,51 @@ fn faulty_records_come_before_11_and_12() {
     tally.assert_each(&numbers, 300);
 }
 
-/// The lister that the library is measured beside gives the same answer and the same rows. Gives the
-/// refusal number.
-fn ordinary_with(rng: &mut Rng, record: &Record, cuts: usize, sides: usize) -> u8 {
-    let (mut cuts, mut sides) = lent::stale_rows(rng, cuts, sides);
-    let (mut other_cuts, mut other_sides) = (cuts.clone(), sides.clone());
-    let answer = sys::list(record, &mut cuts, &mut sides);
-    let other = ordinary::list(record, &mut other_cuts, &mut other_sides);
-    let other = other.map_or_else(|refusal| (refusal, 0), |count| (0, count));
-    assert_eq!(answer, other, "{record:?}");
-    assert!(cuts == other_cuts && sides == other_sides, "{record:?}");
-    answer.0
+/// The listers that the library is measured beside give the same answers and the same rows. Gives the
+/// refusal numbers: of the list call, and of the one for trimmed plans.
+fn ordinary_with(rng: &mut Rng, record: &Record, cuts: usize, sides: usize) -> (u8, u8) {
+    let (cuts, sides) = lent::stale_rows(rng, cuts, sides);
+    let listed = |library: Lister, ordinary: Ordinary| {
+        let (mut cuts, mut sides) = (cuts.clone(), sides.clone());
+        let (mut other_cuts, mut other_sides) = (cuts.clone(), sides.clone());
+        let answer = library(record, &mut cuts, &mut sides);
+        let other = ordinary(record, &mut other_cuts, &mut other_sides);
+        let other = other.map_or_else(|refusal| (refusal, 0), |count| (0, count));
+        assert_eq!(answer, other, "{record:?}");
+        assert!(cuts == other_cuts && sides == other_sides, "{record:?}");
+        answer.0
+    };
+    (
+        listed(sys::list, ordinary::list),
+        listed(sys::list_trimmed, ordinary::list_trimmed),
+    )
 }
 
+type Lister = fn(&Record, &mut [u64], &mut [Nodes]) -> (u8, usize);
+type Ordinary = fn(&Record, &mut [u64], &mut [Nodes]) -> Result<usize, u8>;
+
 #[test]
-fn the_ordinary_lister_agrees() {
+fn the_ordinary_listers_agree() {
     let mut rng = Rng::new(58);
-    let mut tally = Tally::default();
-    for round in 0..8_000 {
-        let mut record = match round % 3 {
+    let (mut tally, mut trimmed) = (Tally::default(), Tally::default());
+    for round in 0..12_000 {
+        let mut record = match round % 4 {
             0 => plans::large(&mut rng),
-            _ => plans::small(&mut rng, 20),
+            1 | 2 => plans::small(&mut rng, 20),
+            _ => {
+                let large = plans::large(&mut rng);
+                plans::trimmed(&mut rng, &large, sides::relevant(&large)).0
+            }
         };
         if rng.once_in(8) {
             plans::corrupt(&mut rng, &mut record);
         }
         let lent = rng.below(60);
         let side_rows = lent + rng.below(8) / 7;
-        tally.count(ordinary_with(&mut rng, &record, lent, side_rows));
+        let (number, as_trimmed) = ordinary_with(&mut rng, &record, lent, side_rows);
+        tally.count(number);
+        trimmed.count(as_trimmed);
     }
     tally.assert_each(&[0, 11, 12], 300);
+    trimmed.assert_each(&[0, 11, 12, 26], 300);
 }

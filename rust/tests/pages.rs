@@ -12,6 +12,7 @@ use cutlist_tests::lengths;
 use cutlist_tests::plans;
 use cutlist_tests::record::{Record, SLOTS};
 use cutlist_tests::rng::Rng;
+use cutlist_tests::sides;
 use cutlist_tests::sys;
 use cutlist_tests::sys::capi::{cutlist_decode, cutlist_widths, on_fields};
 use cutlist_tests::tally::Tally;
@@ -166,6 +167,51 @@ fn decode(plan: &[u8], at: At) -> (u8, Record) {
     (refusal, record)
 }
 
+/// The list, or the list as a trimmed plan, and its width table are what they are elsewhere.
+fn assert_same_list(record: &Record, arrays: &Arrays, trimmed: bool, at: At) {
+    let count = Lent::new(&[7usize], at);
+    let (mut cuts, mut sides) = ([7; 40], [7; 40]);
+    let answer = match trimmed {
+        true => sys::list_trimmed(record, &mut cuts, &mut sides),
+        false => sys::list(record, &mut cuts, &mut sides),
+    };
+    for lent in [answer.1, 40] {
+        let lent_cuts = Lent::new(&vec![7u64; lent], at);
+        let lent_sides = Lent::new(&vec![7 as Nodes; lent], at);
+        let (cut_rows, side_rows, out) = (lent_cuts.place, lent_sides.place, count.place);
+        let refusal = match trimmed {
+            true => call!(
+                cutlist_list_trimmed,
+                record,
+                arrays,
+                cut_rows,
+                lent,
+                side_rows,
+                lent,
+                out
+            ),
+            false => call!(
+                cutlist_list,
+                record,
+                arrays,
+                cut_rows,
+                lent,
+                side_rows,
+                lent,
+                out
+            ),
+        };
+        assert_eq!((refusal, count.values()[0]), answer, "{record:?}");
+        assert_eq!(lent_cuts.values(), &cuts[..lent]);
+        assert_eq!(lent_sides.values(), &sides[..lent]);
+
+        let table = Lent::new(&[7u64; 65], at);
+        // SAFETY: each pointer is valid for its type and length, and the two do not overlap.
+        unsafe { cutlist_widths(lent_cuts.place, lent, table.place.cast()) };
+        assert_eq!(table.values(), sys::widths(lent_cuts.values()));
+    }
+}
+
 /// Every call on the record, on its bytes and on its list gives what it gives elsewhere.
 fn assert_same(record: &Record, set: u64, at: At) -> u8 {
     let arrays = Arrays::of(record, at);
@@ -188,33 +234,11 @@ fn assert_same(record: &Record, set: u64, at: At) -> u8 {
     };
     assert_eq!((refusal, part), sys::relevant(record));
 
-    let count = Lent::new(&[7usize], at);
-    let (mut cuts, mut sides) = ([7; 40], [7; 40]);
-    let answer = sys::list(record, &mut cuts, &mut sides);
-    let rows = answer.1;
-    for lent in [rows, 40] {
-        let lent_cuts = Lent::new(&vec![7u64; lent], at);
-        let lent_sides = Lent::new(&vec![7 as Nodes; lent], at);
-        let refusal = call!(
-            cutlist_list,
-            record,
-            arrays,
-            lent_cuts.place,
-            lent,
-            lent_sides.place,
-            lent,
-            count.place
-        );
-        assert_eq!((refusal, count.values()[0]), answer, "{record:?}");
-        assert_eq!(lent_cuts.values(), &cuts[..lent]);
-        assert_eq!(lent_sides.values(), &sides[..lent]);
-
-        let table = Lent::new(&[7u64; 65], at);
-        // SAFETY: each pointer is valid for its type and length, and the two do not overlap.
-        unsafe { cutlist_widths(lent_cuts.place, lent, table.place.cast()) };
-        assert_eq!(table.values(), sys::widths(lent_cuts.values()));
+    for trimmed in [false, true] {
+        assert_same_list(record, &arrays, trimmed, at);
     }
 
+    let count = Lent::new(&[7usize], at);
     let mut plan = [7; 600];
     let answer = sys::encode(record, &mut plan);
     for lent in [answer.1, 600] {
@@ -242,11 +266,16 @@ fn assert_same(record: &Record, set: u64, at: At) -> u8 {
 fn no_call_looks_past_what_it_was_lent() {
     let mut rng = Rng::new(111);
     let mut tally = Tally::default();
-    for round in 0..300 {
-        let record = match round % 3 {
+    let mut trimmed = 0;
+    for round in 0..400 {
+        let record = match round % 4 {
             0 => plans::record(&mut rng),
             1 => plans::record_with(&mut rng, u64::MAX),
-            _ => plans::small(&mut rng, 12),
+            2 => plans::small(&mut rng, 12),
+            _ => {
+                let large = plans::large(&mut rng);
+                plans::trimmed(&mut rng, &large, sides::relevant(&large)).0
+            }
         };
         let mut record = lengths::measured(&mut rng, &record);
         if round % 5 == 0 {
@@ -259,7 +288,10 @@ fn no_call_looks_past_what_it_was_lent() {
         for at in [At::Start, At::End] {
             tally.count(assert_same(&record, set, at));
         }
+        let (refusal, _) = sys::list_trimmed(&record, &mut [], &mut []);
+        trimmed += u32::from(refusal == 12);
     }
+    assert!(trimmed > 80, "{trimmed}");
     tally.assert_each(&[0], 400);
     tally.assert_each(&[9, 13], 10);
 }

@@ -10,7 +10,8 @@
 //!   --replay FILE  the bytes of a file alone
 //!   --smoke        a fixed seed and number of cases, which must meet every kind of answer
 //!   --digest       one number for all that the library answers on the cases of the smoke run, or on
-//!                  those of --seed and --cases
+//!                  those of --seed and --cases, but for the lists of trimmed plans
+//!   --trimmed      with --digest: the number of these lists alone
 //!   --without-loops
 //!                  with --digest: leaves out the cases in which a cable has both ends at one point, so
 //!                  that a library that refuses such cables gives the same number
@@ -26,7 +27,7 @@ use std::time::{Duration, Instant, SystemTime, UNIX_EPOCH};
 
 use cutlist_tests::fuzz::case::Case;
 use cutlist_tests::fuzz::counts::Counts;
-use cutlist_tests::fuzz::digest::digest;
+use cutlist_tests::fuzz::digest::{digest, trimmed_digest};
 use cutlist_tests::fuzz::search::{panic_of, search, Difference};
 use cutlist_tests::fuzz::shrinking::shrink;
 use cutlist_tests::fuzz::{making, questions};
@@ -50,6 +51,7 @@ struct Options {
     replay: Option<PathBuf>,
     smoke: bool,
     digest: bool,
+    trimmed: bool,
     without_loops: bool,
     without_lengths: bool,
 }
@@ -69,12 +71,14 @@ impl Options {
                 "--replay" => options.replay = Some(value()?.into()),
                 "--smoke" => options.smoke = true,
                 "--digest" => options.digest = true,
+                "--trimmed" => options.trimmed = true,
                 "--without-loops" => options.without_loops = true,
                 "--without-lengths" => options.without_lengths = true,
                 _ => return Err(format!("{name} is no option")),
             }
         }
         for (given, name) in [
+            (options.trimmed, "--trimmed"),
             (options.without_loops, "--without-loops"),
             (options.without_lengths, "--without-lengths"),
         ] {
@@ -112,7 +116,11 @@ fn tell_digest(options: &Options) -> ExitCode {
         .map(|case| make(seed, case))
         .filter(|bytes| !options.without_loops || !Case::of(bytes).has_loop())
         .filter(|bytes| !options.without_lengths || !bytes.contains(&0x4D));
-    println!("{:016x}", digest(cases));
+    let number = match options.trimmed {
+        true => trimmed_digest(cases),
+        false => digest(cases),
+    };
+    println!("{number:016x}");
     ExitCode::SUCCESS
 }
 

@@ -25,6 +25,7 @@ pub struct Counts {
     pub classify: Tally,
     pub metres: Tally,
     pub list: Tally,
+    pub list_trimmed: Tally,
     pub widths: u64,
     pub verdicts: Verdicts,
     /// Halls with a complete list, by length: one row, or more.
@@ -41,6 +42,12 @@ pub struct Counts {
     pub looped: u64,
     pub useful_looped: u64,
     pub loops_added: u64,
+    /// Of the halls listed as trimmed those without a route, and the most points; of those that were not
+    /// trimmed the ones that would be without their loops, and the ones with different numbers of rows.
+    pub trimmed_without_a_route: u64,
+    pub most_trimmed_points: u8,
+    pub untrimmed_by_loops: u64,
+    pub untrimmed_with_other_rows: u64,
     /// Plans read that have a length, and the bytes of the longest.
     pub measured_plans: u64,
     pub most_bytes: usize,
@@ -98,8 +105,25 @@ impl Counts {
         self.useful_looped += u64::from(members(hall.loops()).any(useful));
     }
 
+    /// Notes the answer on a hall that was to be trimmed, with its useful part.
+    pub fn asked_as_trimmed(&mut self, hall: &Record, part: Part, number: u8, other_rows: bool) {
+        self.list_trimmed.count(number);
+        match number {
+            0 => {
+                self.trimmed_without_a_route += u64::from(part.edges == 0);
+                self.most_trimmed_points = self.most_trimmed_points.max(hall.nodes);
+            }
+            26 => {
+                let without_loops = hall.clone().without(hall.loops());
+                self.untrimmed_by_loops += u64::from(part == without_loops.whole());
+                self.untrimmed_with_other_rows += u64::from(other_rows);
+            }
+            _ => (),
+        }
+    }
+
     /// Every refusal of every function occurred and no other, every verdict, short and long lists,
-    /// long ways, loops and lengths.
+    /// long ways, loops, trimmed halls and lengths.
     pub fn assert_wide(&self) {
         for (tally, of_the_plan, more) in [
             (&self.decode, READING, &[][..]),
@@ -109,6 +133,7 @@ impl Counts {
             (&self.classify, FAULTS, &[14]),
             (&self.metres, FAULTS, &[14]),
             (&self.list, FAULTS, &[11, 12]),
+            (&self.list_trimmed, FAULTS, &[26, 11, 12]),
         ] {
             let numbers = [&[0], of_the_plan, more].concat();
             tally.assert_only(&numbers);
@@ -126,6 +151,12 @@ impl Counts {
         assert!(self.looped >= 10_000, "{self}");
         assert!(self.useful_looped >= 8_000, "{self}");
         assert!(self.loops_added >= 20_000, "{self}");
+        self.list_trimmed.assert_each(&[0, 26], 40_000);
+        self.list_trimmed.assert_each(&[11, 12], 5_000);
+        assert!(self.trimmed_without_a_route >= 10_000, "{self}");
+        assert_eq!(self.most_trimmed_points, MOST_NODES, "{self}");
+        assert!(self.untrimmed_by_loops >= 20_000, "{self}");
+        assert!(self.untrimmed_with_other_rows >= 10_000, "{self}");
         assert!(self.measured_plans >= 5_000, "{self}");
         assert_eq!(self.most_bytes, LONGEST_PLAN, "{self}");
         assert!(self.absent_measured >= 300, "{self}");
@@ -147,6 +178,7 @@ impl fmt::Display for Counts {
             ("classify", &self.classify),
             ("metres", &self.metres),
             ("list", &self.list),
+            ("list_trimmed", &self.list_trimmed),
         ] {
             write!(f, " {name} {},", tally.total())?;
             all += tally.clone();
@@ -163,6 +195,8 @@ impl fmt::Display for Counts {
              {} with one row, {} with up to {}, {} of them with a useful point above 31; up to {} useful points; \
              {} halls with the room {FAR} cables from the server or more, up to {}; \
              {} halls with a loop, {} of them with one at a useful point, {} with one added; \
+             {} listed as trimmed, {} of them without a route, of up to {} points; \
+             {} not trimmed for their loops alone, {} not trimmed with different numbers of rows; \
              {} measured plans, plans of up to {} bytes, {} records with metres of absent cables alone; \
              {} totals above 65535, up to {}",
             all.of(0),
@@ -176,6 +210,11 @@ impl fmt::Display for Counts {
             self.looped,
             self.useful_looped,
             self.loops_added,
+            self.list_trimmed.of(0),
+            self.trimmed_without_a_route,
+            self.most_trimmed_points,
+            self.untrimmed_by_loops,
+            self.untrimmed_with_other_rows,
             self.measured_plans,
             self.most_bytes,
             self.absent_measured,

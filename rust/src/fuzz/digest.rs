@@ -2,12 +2,14 @@
 //! bytes and rows as the calls left them. A change that should change no answer leaves the number as
 //! it was. The reference has no part in it, and neither have names and types: a number counts as its
 //! eight bytes, whatever its width. Lengths count where there are any: a case without them gives the
-//! number that it gave before plans had them.
+//! number that it gave before plans had them. The lists of trimmed plans have a number of their own.
 
+use crate::answers::Nodes;
 use crate::brute::members;
 use crate::fuzz::case::{self, Case};
 use crate::fuzz::questions::{ample, lent_bytes, lent_rows, sets, LONGEST_LIST};
 use crate::lent;
+use crate::plans;
 use crate::record::Record;
 use crate::reference::Refusal;
 use crate::rng::Rng;
@@ -40,6 +42,27 @@ impl Digest {
 
 /// The number of these cases.
 pub fn digest(cases: impl IntoIterator<Item = Vec<u8>>) -> u64 {
+    digest_of(cases, answers)
+}
+
+/// The number of what they are listed as by the call for trimmed plans, as they are and cut down to the
+/// useful part that the library finds.
+pub fn trimmed_digest(cases: impl IntoIterator<Item = Vec<u8>>) -> u64 {
+    digest_of(cases, |case, digest| {
+        let mut rng = Rng::new(case.set);
+        lists(sys::list_trimmed, case, &case.record, &mut rng, digest);
+        let (refusal, part) = sys::relevant(&case.record);
+        if refusal == 0 {
+            let (plan, _) = plans::trimmed(&mut rng, &case.record, part);
+            lists(sys::list_trimmed, case, &plan, &mut rng, digest);
+        }
+    })
+}
+
+fn digest_of(
+    cases: impl IntoIterator<Item = Vec<u8>>,
+    answers: impl Fn(&Case, &mut Digest),
+) -> u64 {
     let mut digest = Digest::new();
     for bytes in cases {
         answers(&Case::of(&bytes), &mut digest);
@@ -47,7 +70,7 @@ pub fn digest(cases: impl IntoIterator<Item = Vec<u8>>) -> u64 {
     digest.0
 }
 
-/// Asks every function.
+/// Asks every function but the one for trimmed plans.
 fn answers(case: &Case, digest: &mut Digest) {
     let record = &case.record;
     let mut rng = Rng::new(case.set);
@@ -72,13 +95,8 @@ fn answers(case: &Case, digest: &mut Digest) {
     digest.number(part.nodes);
     digest.number(part.edges);
 
+    let listed = lists(sys::list, case, record, &mut rng, digest);
     // What else is asked follows from the list, if it is not too long.
-    let listed = list(record, (LONGEST_LIST, LONGEST_LIST), &mut rng, digest);
-    let rows = listed.as_ref().map(Vec::len);
-    for lent in lent_rows(case, rows, ample(part)) {
-        list(record, lent, &mut rng, digest);
-    }
-
     let cuts = listed.unwrap_or_default();
     for set in sets(case, &cuts) {
         let (refusal, verdict) = sys::classify(record, set);
@@ -96,15 +114,37 @@ fn answers(case: &Case, digest: &mut Digest) {
     }
 }
 
+/// A call that lists into lent rows.
+type ListCall = fn(&Record, &mut [u64], &mut [Nodes]) -> (u8, usize);
+
+/// Lists the record of a case, or another, into as many rows as are ever lent, and then into those that
+/// the case lends; gives the cuts, unless they are more.
+fn lists(
+    call: ListCall,
+    case: &Case,
+    record: &Record,
+    rng: &mut Rng,
+    digest: &mut Digest,
+) -> Option<Vec<u64>> {
+    let listed = list(call, record, (LONGEST_LIST, LONGEST_LIST), rng, digest);
+    let rows = listed.as_ref().map(Vec::len);
+    let (_, part) = sys::relevant(record);
+    for lent in lent_rows(case, rows, ample(part)) {
+        list(call, record, lent, rng, digest);
+    }
+    listed
+}
+
 /// Lists into so many cut rows and side rows; gives the cuts, unless they are more.
 fn list(
+    call: ListCall,
     record: &Record,
     (cut_rows, side_rows): (usize, usize),
     rng: &mut Rng,
     digest: &mut Digest,
 ) -> Option<Vec<u64>> {
     let (mut cuts, mut sides) = lent::stale_rows(rng, cut_rows, side_rows);
-    let (refusal, count) = sys::list(record, &mut cuts, &mut sides);
+    let (refusal, count) = call(record, &mut cuts, &mut sides);
     digest.number(refusal);
     digest.number(count as u64);
     digest.numbers(&cuts);

@@ -63,6 +63,7 @@ fn on_the_record(case: &Case, counts: &mut Counts) {
 
     if fault == 0 {
         other_loops(case, &known, &mut rng, counts);
+        trimmed(case, &known, &mut rng, counts);
     }
     if !cuts.is_empty() {
         counts.listed(cuts.len(), known.part);
@@ -80,6 +81,8 @@ fn part_and_list(case: &Case, record: &Record, known: &Known, rng: &mut Rng, cou
         counts
             .list
             .count(compare::list(record, rows, &cuts, &sides));
+        let number = compare::list_trimmed(record, known.part, rows, &cuts, &sides);
+        counts.asked_as_trimmed(record, known.part, number, cut_rows != side_rows);
     }
 }
 
@@ -117,6 +120,24 @@ fn other_loops(case: &Case, known: &Known, rng: &mut Rng, counts: &mut Counts) {
             judging(&more, cut, Verdict::Minimal, counts);
             judging(&more, cut | added, Verdict::NotMinimal, counts);
         }
+    }
+}
+
+/// An accepted hall has the list that it has when it is cut down to its useful part, under other numbers.
+/// That is a trimmed plan, and none any more with something that hangs on one point or on nothing.
+fn trimmed(case: &Case, known: &Known, rng: &mut Rng, counts: &mut Counts) {
+    let (plan, numbers) = plans::trimmed(rng, &case.record, known.part);
+    let known = Known {
+        part: plan.whole(),
+        minpaths: None,
+        rows: known.rows.as_ref().map(|rows| numbers.of(rows)),
+        ample: known.ample,
+    };
+    part_and_list(case, &plan, &known, rng, counts);
+
+    let hanging = rng.pick(&plans::HANGING);
+    if let Some(more) = plans::with_hanging(rng, &plan, hanging) {
+        part_and_list(case, &more, &known, rng, counts);
     }
 }
 
