@@ -1,16 +1,18 @@
 //! The list call beside the same method in ordinary Rust, on halls as they stand and with their points
 //! and cables numbered anew for each call; then the cost of a row in short lists and long ones, the
 //! slowest calls found, the useful part, which each list begins with, and the judging of a minimal
-//! cut. All are measured in one run: medians over repeated calls in turn, the rows cleared before each
-//! list. A ratio is the library's time over that of the column before it.
+//! cut; then the test of trimmed plans beside their trimming. All are measured in one run: medians over
+//! repeated calls in turn, the rows cleared before each list. A ratio is the library's time over that of
+//! the column before it, of trimmed plans that of the first of two columns over that of the second.
 //!
 //! cargo bench --offline
 //!
-//! The eleven-point hall alone, about a second:
+//! The eleven-point hall alone, about a second; or trimmed plans alone:
 //!
 //! cargo bench --offline -- --eleven
+//! cargo bench --offline -- --trimmed
 //!
-//! With either, an earlier build of the library is measured in the same run if it is there as a shared
+//! With all or with the first, an earlier build of the library is measured in the same run if it is there as a shared
 //! object, by its whole path or as seen from this package:
 //!
 //! gcc -shared -o before.so -Wl,-Bsymbolic -Wl,--whole-archive libcapi.a -Wl,--no-whole-archive
@@ -84,6 +86,8 @@ impl Lent {
 /// What makes lists.
 enum Lister<'a> {
     Library(&'a Build),
+    /// The library's call for trimmed plans.
+    Trimmed(&'a Build),
     Ordinary,
 }
 
@@ -93,6 +97,9 @@ impl Lister<'_> {
         match self {
             Lister::Library(build) => {
                 sys::list_bare(build, record, &mut lent.cuts, &mut lent.sides)
+            }
+            Lister::Trimmed(build) => {
+                sys::list_trimmed_bare(build, record, &mut lent.cuts, &mut lent.sides)
             }
             Lister::Ordinary => match ordinary::list(record, &mut lent.cuts, &mut lent.sides) {
                 Ok(count) => (0, count),
@@ -109,27 +116,40 @@ fn listers(builds: &[Build]) -> Vec<Lister<'_>> {
     listers
 }
 
+/// What is to be measured, or printed.
+#[derive(Clone, Copy, PartialEq, Eq)]
+enum Asked {
+    All,
+    Eleven,
+    Trimmed,
+    Plans,
+}
+
 /// What the command line asks for.
-#[derive(Default)]
 struct Options {
-    eleven: bool,
-    plans: bool,
+    asked: Asked,
     before: Option<String>,
 }
 
 impl Options {
     /// `None` if it cannot be read.
     fn of(mut arguments: impl Iterator<Item = String>) -> Option<Options> {
-        let mut options = Options::default();
+        let (mut asked, mut before) = (None, None);
         while let Some(name) = arguments.next() {
-            match name.as_str() {
-                "--eleven" if !options.plans => options.eleven = true,
-                "--before" if !options.plans => options.before = Some(arguments.next()?),
-                "--plans" if !options.eleven && options.before.is_none() => options.plans = true,
+            let again = match name.as_str() {
+                "--eleven" => asked.replace(Asked::Eleven).is_some(),
+                "--trimmed" => asked.replace(Asked::Trimmed).is_some(),
+                "--plans" => asked.replace(Asked::Plans).is_some(),
+                "--before" => before.replace(arguments.next()?).is_some(),
                 _ => return None,
+            };
+            if again {
+                return None;
             }
         }
-        Some(options)
+        let asked = asked.unwrap_or(Asked::All);
+        let fit = before.is_none() || matches!(asked, Asked::All | Asked::Eleven);
+        fit.then_some(Options { asked, before })
     }
 }
 
@@ -178,6 +198,17 @@ struct Turns<'a> {
     times: Vec<Vec<Duration>>,
 }
 
+/// The hall under these numbers.
+fn numbered(rng: &mut Rng, hall: &Record, numbers: Numbers) -> Record {
+    match numbers {
+        Numbers::AsTheyStand => hall.clone(),
+        Numbers::Anew => {
+            let renamed = plans::renamed(rng, hall);
+            plans::renumbered(rng, &renamed)
+        }
+    }
+}
+
 impl Turns<'_> {
     fn on<'a>(
         listers: &'a [Lister],
@@ -199,13 +230,7 @@ impl Turns<'_> {
 
     /// One call of each, all on the same plan. They give the same answer and the same rows.
     fn take(&mut self) {
-        let plan = match self.numbers {
-            Numbers::AsTheyStand => self.hall.clone(),
-            Numbers::Anew => {
-                let renamed = plans::renamed(&mut self.rng, self.hall);
-                plans::renumbered(&mut self.rng, &renamed)
-            }
-        };
+        let plan = numbered(&mut self.rng, self.hall, self.numbers);
         let mut expected = None;
         for (lister, times) in self.listers.iter().zip(&mut self.times) {
             self.lent.clear();
@@ -303,20 +328,30 @@ fn measure(listers: &[Lister], name: &str, hall: &Record) {
         ample => vec![count, ample],
     };
     for rows in lent {
-        let lists = slowest * listers.len() as u32;
-        let calls = (BUDGET.as_nanos() / lists.as_nanos().max(1)) as usize;
-        let calls = calls.clamp(CALLS.0, CALLS.1) | 1;
-        print!(
-            "{name:<32} {:>6} {:>6} {count:>7} {rows:>7} {calls:>5}",
-            hall.nodes,
-            hall.present.count_ones(),
-        );
+        let calls = calls(listers, slowest);
+        print!("{}", line(name, hall, count, rows, calls));
         for numbers in [Numbers::AsTheyStand, Numbers::Anew] {
             let times = medians(listers, hall, numbers, rows, calls, Timer::of(slowest));
             print!("{}", figures(&times, count));
         }
         println!();
     }
+}
+
+/// The calls for one figure, if the slowest lister takes so long.
+fn calls(listers: &[Lister], slowest: Duration) -> usize {
+    let lists = slowest * listers.len() as u32;
+    let calls = (BUDGET.as_nanos() / lists.as_nanos().max(1)) as usize;
+    calls.clamp(CALLS.0, CALLS.1) | 1
+}
+
+/// What a line of a table says before its figures.
+fn line(name: &str, hall: &Record, rows: usize, lent: usize, calls: usize) -> String {
+    let cables = hall.present.count_ones();
+    format!(
+        "{name:<32} {:>6} {cables:>6} {rows:>7} {lent:>7} {calls:>5}",
+        hall.nodes
+    )
 }
 
 /// So many rows that no plan with as many useful points has more.
@@ -329,12 +364,8 @@ fn lists(listers: &[Lister]) {
     let names = &LISTERS[..listers.len()];
     let (headings, units) = (headings(names), units(names, "ns/row"));
     let width = headings.len() - 1;
-    println!("{:<68} {:<width$} numbered anew", "", "as it stands");
-    println!(
-        "{:<32} {:>6} {:>6} {:>7} {:>7} {:>5}{headings}{headings}",
-        "hall", "points", "cables", "rows", "lent", "calls"
-    );
-    println!("{:<68}{units}{}", "", units.trim_end());
+    println!("\n{:<68} {:<width$} numbered anew", "", "as it stands");
+    head("hall", &headings.repeat(2), &units.repeat(2));
     for (name, hall) in table() {
         measure(listers, &name, &hall);
     }
@@ -460,19 +491,20 @@ fn eleven(listers: &[Lister]) -> f64 {
     ratios.into_iter().fold(0.0, f64::max)
 }
 
-/// The head of a table: what it is of, what a line says of the hall, and a column for each lister.
-fn head(title: &str, listers: &[Lister], unit: &str) {
-    let names = &LISTERS[..listers.len()];
+/// The head of a table: what it is of, what a line says of the hall, and its figures.
+fn head(title: &str, headings: &str, units: &str) {
     println!(
-        "\n{title:<32} {:>6} {:>6} {:>7} {:>7} {:>5}{}",
-        "points",
-        "cables",
-        "rows",
-        "lent",
-        "calls",
-        headings(names)
+        "{title:<32} {:>6} {:>6} {:>7} {:>7} {:>5}{headings}",
+        "points", "cables", "rows", "lent", "calls"
     );
-    println!("{:<68}{}", "", units(names, unit).trim_end());
+    println!("{:<68}{}", "", units.trim_end());
+}
+
+/// The head of a table with a column for each lister.
+fn head_of_listers(title: &str, listers: &[Lister], unit: &str) {
+    let names = &LISTERS[..listers.len()];
+    println!();
+    head(title, &headings(names), &units(names, unit));
 }
 
 /// The table of one kind of hall from under a thousand rows to over a million, with so many lent: by how
@@ -498,19 +530,14 @@ fn flatness(listers: &[Lister], rows: impl Fn(&Record) -> usize) -> f64 {
         }
     }
 
-    head("one kind of hall, numbered anew", listers, "ns/row");
+    head_of_listers("one kind of hall, numbered anew", listers, "ns/row");
     let mut costs = vec![Vec::new(); listers.len()];
     for ((turns, hall), (points, calls)) in turns.into_iter().zip(&halls).zip(LAYERS) {
         let (count, lent) = (check(listers, hall).0, turns.lent.cuts.len());
         let times = turns.medians();
-        println!(
-            "{:<32} {:>6} {:>6} {count:>7} {lent:>7} {:>5}{}",
-            format!("two layers of {points}"),
-            hall.nodes,
-            hall.present.count_ones(),
-            calls * ROUNDS,
-            figures(&times, count)
-        );
+        let name = format!("two layers of {points}");
+        let line = line(&name, hall, count, lent, calls * ROUNDS);
+        println!("{line}{}", figures(&times, count));
         for (time, costs) in times.into_iter().zip(&mut costs) {
             costs.push(time.as_nanos() as f64 / count as f64);
         }
@@ -542,7 +569,7 @@ fn slowest_calls() -> [(&'static str, Record); 2] {
 /// The table of the slowest calls found: with as many rows lent as the list program lends, and where
 /// that gives a list, with exactly the rows that it needs.
 fn slowest(listers: &[Lister]) {
-    head("slowest calls", listers, "us/call");
+    head_of_listers("slowest calls", listers, "us/call");
     for (name, hall) in slowest_calls() {
         let (_, count) = Lister::Ordinary.list(&hall, &mut Lent::rows(PROGRAM));
         let mut lent = vec![count, PROGRAM];
@@ -551,12 +578,8 @@ fn slowest(listers: &[Lister]) {
         for rows in lent {
             let (numbers, calls) = (Numbers::AsTheyStand, CALLS.1);
             let times = medians(listers, &hall, numbers, rows, calls, Timer::Processor);
-            println!(
-                "{name:<32} {:>6} {:>6} {count:>7} {rows:>7} {calls:>5}{}",
-                hall.nodes,
-                hall.present.count_ones(),
-                figures(&times, 1000)
-            );
+            let line = line(name, &hall, count, rows, calls);
+            println!("{line}{}", figures(&times, 1000));
         }
     }
 }
@@ -617,6 +640,121 @@ fn other_calls(builds: &[Build]) {
     }
 }
 
+/// A step that gives the refusal's number.
+type Step = fn(&Record) -> u8;
+
+/// The test of a trimmed plan and its trimming, each behind the test of the record, and how they end: in
+/// the library, and in ordinary Rust. With different numbers of rows the call for trimmed plans ends
+/// straight after its test, with 11.
+const STEPS: [(Step, u8); 4] = [
+    (
+        |plan| sys::list_trimmed_bare(&Build::LINKED, plan, &mut [0], &mut []).0,
+        11,
+    ),
+    (
+        |plan| black_box(sys::relevant_bare(&Build::LINKED, plan)).0,
+        0,
+    ),
+    (
+        |plan| ordinary::list_trimmed(plan, &mut [0], &mut []).expect_err("no list"),
+        11,
+    ),
+    (
+        |plan| black_box(ordinary::relevant(plan)).err().unwrap_or(0),
+        0,
+    ),
+];
+
+/// The medians of pairs of calls on so many plans of a hall, all on the same plans. The second of a pair
+/// has each plan half the plans before or after the first: the two have code in common, which would know
+/// the plan of the call just before by heart.
+fn medians_of_pairs<const N: usize>(
+    hall: &Record,
+    numbers: Numbers,
+    calls: usize,
+    mut timed: impl FnMut(usize, &Record) -> Duration,
+) -> [Duration; N] {
+    let mut rng = Rng::new(1);
+    let plans: Vec<Record> = (0..calls)
+        .map(|_| numbered(&mut rng, hall, numbers))
+        .collect();
+    let mut times = [(); N].map(|()| Vec::new());
+    for turn in 0..calls {
+        for (call, times) in times.iter_mut().enumerate() {
+            let plan = &plans[(turn + call % 2 * (calls / 2)) % calls];
+            times.push(timed(call, plan));
+        }
+    }
+    times.map(median)
+}
+
+/// The medians of the steps.
+fn median_steps(hall: &Record, numbers: Numbers) -> [Duration; STEPS.len()] {
+    medians_of_pairs(hall, numbers, CALLS.1, |call, plan| {
+        let (step, number) = STEPS[call];
+        let (answer, time) = Timer::Clock.time(|| step(plan));
+        assert_eq!(answer, number, "{plan:?}");
+        time
+    })
+}
+
+/// The medians of the list by the call for trimmed plans and of the list by the other; how many rows they
+/// list, and the calls of each.
+fn median_lists(hall: &Record, numbers: Numbers) -> ([Duration; 2], usize, usize) {
+    let listers = [
+        Lister::Trimmed(&Build::LINKED),
+        Lister::Library(&Build::LINKED),
+    ];
+    let (count, slowest) = check(&listers, hall);
+    let calls = calls(&listers, slowest);
+    let (timer, mut lent) = (Timer::of(slowest), Lent::rows(count));
+    let medians = medians_of_pairs(hall, numbers, calls, |call, plan| {
+        lent.clear();
+        let (answer, time) = timer.time(|| listers[call].list(plan, &mut lent));
+        assert_eq!(answer, (0, count), "{plan:?}");
+        time
+    });
+    (medians, count, calls)
+}
+
+/// The table for the halls of the other that are trimmed: test and trimming, the list by the call for
+/// trimmed plans and the list by the other, in the library; test and trimming in ordinary Rust. As many
+/// rows are lent as the hall has, and the calls are those of the lists. Gives the halls on which the
+/// library's test does not take less time than its trimming, and the ratio.
+fn trimmed(numbers: Numbers) -> Vec<(String, f64)> {
+    let (steps, lists) = (["test", "trimming"], ["trimmed", "list"]);
+    let title = match numbers {
+        Numbers::AsTheyStand => "trimmed plans, as they stand",
+        Numbers::Anew => "trimmed plans, numbered anew",
+    };
+    let headings = [steps, lists, steps].map(|names| headings(&names));
+    let units = [(steps, "ns/call"), (lists, "ns/row"), (steps, "ns/call")]
+        .map(|(names, unit)| units(&names, unit));
+    let width = headings[..2].concat().len() - 1;
+    println!("\n{:<68} {:<width$} ordinary", "", "library");
+    head(title, &headings.concat(), &units.concat());
+
+    let mut dear = Vec::new();
+    for (name, hall) in table() {
+        if sides::relevant(&hall) != hall.whole() {
+            continue;
+        }
+        let [test, trimming, other_test, other_trimming] = median_steps(&hall, numbers);
+        let (lists, count, calls) = median_lists(&hall, numbers);
+        println!(
+            "{}{}{}{}",
+            line(&name, &hall, count, count, calls),
+            figures(&[test, trimming], 1),
+            figures(&lists, count),
+            figures(&[other_test, other_trimming], 1)
+        );
+        if test >= trimming {
+            dear.push((name, ratio(test, trimming)));
+        }
+    }
+    dear
+}
+
 /// Prints the halls of the table, one without a route and small random ones, which have no name: the
 /// plan's bytes and the name.
 fn print_plans() {
@@ -637,10 +775,11 @@ fn main() -> ExitCode {
     // cargo adds an argument of its own.
     let arguments = env::args().skip(1).filter(|argument| argument != "--bench");
     let Some(options) = Options::of(arguments) else {
-        eprintln!("cargo bench --offline [-- [--eleven] [--before LIB.so] | --plans]");
+        eprintln!("cargo bench --offline [-- [--eleven] [--before LIB.so] | --trimmed | --plans]");
         return ExitCode::from(2);
     };
-    if options.plans {
+    let (all, asked) = (options.asked == Asked::All, options.asked);
+    if asked == Asked::Plans {
         print_plans();
         return ExitCode::SUCCESS;
     }
@@ -656,17 +795,18 @@ fn main() -> ExitCode {
     let listers = listers(&builds);
 
     let mut exceeded = Vec::new();
-    if !options.eleven {
-        println!();
+    if all {
         lists(&listers);
     }
-    let ratio = eleven(&listers);
-    if ratio > MOST_RATIO {
-        exceeded.push(format!(
-            "On the eleven-point hall the library takes {ratio:.2} times what ordinary Rust takes, more than {MOST_RATIO}."
-        ));
+    if all || asked == Asked::Eleven {
+        let ratio = eleven(&listers);
+        if ratio > MOST_RATIO {
+            exceeded.push(format!(
+                "On the eleven-point hall the library takes {ratio:.2} times what ordinary Rust takes, more than {MOST_RATIO}."
+            ));
+        }
     }
-    if !options.eleven {
+    if all {
         // With ample rows every list is made in one pass. With exactly the rows that it needs only a list
         // that is kept while it is counted is: a step between short ones and long ones, and no slope.
         let spread = flatness(&listers, ample);
@@ -678,6 +818,14 @@ fn main() -> ExitCode {
         }
         slowest(&listers);
         other_calls(&builds);
+    }
+    if all || asked == Asked::Trimmed {
+        let dear = [Numbers::AsTheyStand, Numbers::Anew].map(trimmed);
+        exceeded.extend(dear.into_iter().flatten().map(|(name, ratio)| {
+            format!(
+                "On the hall '{name}' the test of a trimmed plan takes {ratio:.2} times what trimming it takes, not less."
+            )
+        }));
     }
     for complaint in &exceeded {
         eprintln!("{complaint}");
