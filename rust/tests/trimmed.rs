@@ -253,9 +253,42 @@ fn every_server_and_room_on_a_line_and_on_a_circle() {
 #[test]
 fn every_loop_on_the_bridge() {
     let mut rng = Rng::new(208);
-    for slot in 5..SLOTS {
-        for node in 0..4 {
-            assert_refused(&mut rng, &halls::bridge().with(slot, node, node));
+    for _ in 0..4 {
+        let bridge = plans::renumbered(&mut rng, &halls::bridge());
+        for slot in (0..SLOTS).filter(|&slot| !bridge.holds(slot)) {
+            for node in 0..4 {
+                assert_refused(&mut rng, &bridge.clone().with(slot, node, node));
+            }
+        }
+    }
+}
+
+/// The plan with two points exchanged.
+fn exchanged(record: &Record, one: u8, other: u8) -> Record {
+    let place = |node: u8| match node {
+        node if node == one => other,
+        node if node == other => one,
+        node => node,
+    };
+    let bare = Record::bare(record.nodes, place(record.source), place(record.sink));
+    record.edges().fold(bare, |plan, edge| {
+        plan.with(edge, place(record.first[edge]), place(record.second[edge]))
+    })
+}
+
+/// Of 64 points each in turn is the only one that is not useful: it hangs on nothing, or on any other.
+#[test]
+fn every_point_that_hangs() {
+    let mut rng = Rng::new(216);
+    for hall in [halls::line(63, 1), halls::circle(63, &[1])] {
+        for hanging in [&[][..], &[(0, 1)]] {
+            for point in 0..64 {
+                let more =
+                    plans::with_hanging(&mut rng, &hall, (1, hanging)).expect("room for one");
+                let more = exchanged(&more, 63, point);
+                assert_eq!(sides::relevant(&more).nodes, !(1 << point));
+                assert_refused(&mut rng, &more);
+            }
         }
     }
 }
