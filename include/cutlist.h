@@ -38,10 +38,10 @@
  * nothing and call nothing but memcpy and memset. So they may be called from several threads at once
  * and from signal handlers, as long as no call is given memory that another one writes.
  *
- * Each call takes at most CUTLIST_STACK_BYTES of stack; cutlist_list and cutlist_list_trimmed take the
- * most, and every other call less than 2 KiB: rust/tests/stack.rs measures it, on halls where the list
- * goes as deep as it can. Of the list's stack 32 KiB hold rows that it keeps while it counts them. The
- * list program makes all that it prints on its stack, and needs 896 KiB.
+ * Each call takes at most CUTLIST_STACK_BYTES of stack; cutlist_list and cutlist_list_trimmed take
+ * the most, and every other call less than 2 KiB: rust/tests/stack.rs measures it, on halls where
+ * the list goes as deep as it can. Of the list's stack 32 KiB hold rows that it keeps while it
+ * counts them. The list program makes all that it prints on its stack, and needs 896 KiB.
  */
 #ifndef CUTLIST_H
 #define CUTLIST_H

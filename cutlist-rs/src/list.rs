@@ -35,8 +35,8 @@ pub struct Mincuts {
 }
 
 impl Mincuts {
-    /// What a call lists into lent rows, if these are at most so many. It is lent few at first, and more
-    /// as long as it refuses for want of them; any other refusal is its answer at once.
+    /// What a call lists into lent rows, if these are at most so many. It is lent few at first, and
+    /// more as long as it refuses for want of them; any other refusal is its answer at once.
     pub(crate) fn listed(
         most: usize,
         call: impl Fn(&mut [EdgeSet], &mut [NodeSet]) -> Result<usize, Refusal>,

@@ -253,16 +253,16 @@ impl Plan {
         answer(number, count)
     }
 
-    /// The minimal cuts of a plan that was trimmed already, as [`Plan::mincuts`] gives them: for callers
-    /// that trim plans themselves. In place of trimming it is tested that every point and every cable
-    /// is useful, which takes less time; if one is not, a loop for instance, the plan is refused with
-    /// [`Refusal::NotTrimmed`], however many rows there may be.
+    /// The minimal cuts of a plan that was trimmed already, as [`Plan::mincuts`] gives them: for
+    /// callers that trim plans themselves. In place of trimming it is tested that every point and
+    /// every cable is useful, which takes less time; if one is not, a loop for instance, the plan is
+    /// refused with [`Refusal::NotTrimmed`], however many rows there may be.
     pub fn trimmed_mincuts(&self, most: usize) -> Result<Mincuts, ListError> {
         Mincuts::listed(most, |cuts, sides| self.list_trimmed_into(cuts, sides))
     }
 
-    /// Lists the minimal cuts of a plan that was trimmed already into lent rows, as [`Plan::list_into`]
-    /// does. A plan that was not is refused with [`Refusal::NotTrimmed`], before
+    /// Lists the minimal cuts of a plan that was trimmed already into lent rows, as
+    /// [`Plan::list_into`] does. A plan that was not is refused with [`Refusal::NotTrimmed`], before
     /// [`Refusal::RowsDiffer`] and [`Refusal::TooManyCuts`].
     pub fn list_trimmed_into(
         &self,

@@ -1,9 +1,10 @@
-//! The list call beside the same method in ordinary Rust, on halls as they stand and with their points
-//! and cables numbered anew for each call; then the cost of a row in short lists and long ones, the
-//! slowest calls found, the useful part, which each list begins with, and the judging of a minimal
-//! cut; then the test of trimmed plans beside their trimming. All are measured in one run: medians over
-//! repeated calls in turn, the rows cleared before each list. A ratio is the library's time over that of
-//! the column before it, of trimmed plans that of the first of two columns over that of the second.
+//! The list call beside the same method in ordinary Rust, on halls as they stand and with their
+//! points and cables numbered anew for each call; then the cost of a row in short lists and long
+//! ones, the slowest calls found, the useful part, which each list begins with, and the judging of a
+//! minimal cut; then the test of trimmed plans beside their trimming. All are measured in one run:
+//! medians over repeated calls in turn, the rows cleared before each list. A ratio is the library's
+//! time over that of the column before it, of trimmed plans that of the first of two columns over
+//! that of the second.
 //!
 //! cargo bench --offline
 //!
@@ -12,8 +13,8 @@
 //! cargo bench --offline -- --eleven
 //! cargo bench --offline -- --trimmed
 //!
-//! With all or with the first, an earlier build of the library is measured in the same run if it is there as a shared
-//! object, by its whole path or as seen from this package:
+//! With all or with the first, an earlier build of the library is measured in the same run if it is
+//! there as a shared object, by its whole path or as seen from this package:
 //!
 //! gcc -shared -o before.so -Wl,-Bsymbolic -Wl,--whole-archive libcapi.a -Wl,--no-whole-archive
 //! cargo bench --offline -- --before before.so
@@ -643,9 +644,9 @@ fn other_calls(builds: &[Build]) {
 /// A step that gives the refusal's number.
 type Step = fn(&Record) -> u8;
 
-/// The test of a trimmed plan and its trimming, each behind the test of the record, and how they end: in
-/// the library, and in ordinary Rust. With different numbers of rows the call for trimmed plans ends
-/// straight after its test, with 11.
+/// The test of a trimmed plan and its trimming, each behind the test of the record, and how they
+/// end: in the library, and in ordinary Rust. With different numbers of rows the call for trimmed
+/// plans ends straight after its test, with 11.
 const STEPS: [(Step, u8); 4] = [
     (
         |plan| sys::list_trimmed_bare(&Build::LINKED, plan, &mut [0], &mut []).0,
@@ -665,9 +666,9 @@ const STEPS: [(Step, u8); 4] = [
     ),
 ];
 
-/// The medians of pairs of calls on so many plans of a hall, all on the same plans. The second of a pair
-/// has each plan half the plans before or after the first: the two have code in common, which would know
-/// the plan of the call just before by heart.
+/// The medians of pairs of calls on so many plans of a hall, all on the same plans. The second of a
+/// pair has each plan half the plans before or after the first: the two have code in common, which
+/// would know the plan of the call just before by heart.
 fn medians_of_pairs<const N: usize>(
     hall: &Record,
     numbers: Numbers,
@@ -698,8 +699,8 @@ fn median_steps(hall: &Record, numbers: Numbers) -> [Duration; STEPS.len()] {
     })
 }
 
-/// The medians of the list by the call for trimmed plans and of the list by the other; how many rows they
-/// list, and the calls of each.
+/// The medians of the list by the call for trimmed plans and of the list by the other; how many rows
+/// they list, and the calls of each.
 fn median_lists(hall: &Record, numbers: Numbers) -> ([Duration; 2], usize, usize) {
     let listers = [
         Lister::Trimmed(&Build::LINKED),
@@ -717,10 +718,10 @@ fn median_lists(hall: &Record, numbers: Numbers) -> ([Duration; 2], usize, usize
     (medians, count, calls)
 }
 
-/// The table for the halls of the other that are trimmed: test and trimming, the list by the call for
-/// trimmed plans and the list by the other, in the library; test and trimming in ordinary Rust. As many
-/// rows are lent as the hall has, and the calls are those of the lists. Gives the halls on which the
-/// library's test does not take less time than its trimming, and the ratio.
+/// The table for the halls of the first one that are trimmed: test and trimming, the list by the call
+/// for trimmed plans and the list by the other, in the library; test and trimming in ordinary Rust.
+/// As many rows are lent as the hall has, and the calls are those of the lists. Gives the halls on
+/// which the library's test does not take less time than its trimming, and the ratio.
 fn trimmed(numbers: Numbers) -> Vec<(String, f64)> {
     let (steps, lists) = (["test", "trimming"], ["trimmed", "list"]);
     let title = match numbers {

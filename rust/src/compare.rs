@@ -180,8 +180,8 @@ fn list_by(
 }
 
 /// Finds this useful part and this list of a record without fault, with the rows needed, with more,
-/// with one less and with different numbers of them, and lists it so by the call for trimmed records if
-/// it is one; ordinary Rust finds the same.
+/// with one less and with different numbers of them, and lists it so by the call for trimmed records
+/// if it is one; ordinary Rust finds the same.
 pub fn part_and_list(rng: &mut Rng, record: &Record, part: Part, rows: &[Row]) {
     assert_eq!(relevant(record, part), 0);
     assert_eq!(ordinary::relevant(record), Ok(part), "{record:?}");

@@ -218,8 +218,8 @@ pub fn trimmed(rng: &mut Rng, record: &Record, part: Part) -> (Record, Numbers) 
     (trimmed, Numbers { nodes, edges })
 }
 
-/// What hangs on one point of a plan or on nothing, and so is not useful: new points, and cables, whose
-/// ends are 0 for that point and 1, 2 .. for the new ones.
+/// What hangs on one point of a plan or on nothing, and so is not useful: new points, and cables,
+/// whose ends are 0 for that point and 1, 2 .. for the new ones.
 pub const HANGING: [(u8, &[(u8, u8)]); 8] = [
     // A loop, and a point with nothing.
     (0, &[(0, 0)]),

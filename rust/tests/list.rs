@@ -1,5 +1,5 @@
-//! The list call: every row and every lent word, against brute force and against a second lister. What
-//! is trimmed is listed so by the call for trimmed plans, and what is not is refused by it.
+//! The list call: every row and every lent word, against brute force and against a second lister.
+//! What is trimmed is listed so by the call for trimmed plans, and what is not is refused by it.
 
 use std::time::{Duration, Instant};
 

@@ -1,13 +1,14 @@
 //! The stack that the calls need, held against what the header says. Each call is made on a stack of
 //! its own that was painted before: how far down the paint is gone is how much the call took.
 //!
-//! The lists take most: for the rows that they keep while they count them, and below these in two places.
-//! The calls that grow the near side decide one point each, so at most 63 of them, all points but the
-//! room, stand above each other: a line of 64 points has as many. The sort splits more than 8 rows at
-//! cables on which cuts differ, and of these at most 62 are independent, the points but server and
-//! room; the last three cannot tell more than 8 rows apart, so at most 60 of its calls do. The walk by
-//! which a plan is found trimmed visits one point in each call, so on a line at most 63 of them stand
-//! above each other, all points but the server; they are gone before rows are kept.
+//! The lists take most: for the rows that they keep while they count them, and below these in two
+//! places. The calls that grow the near side decide one point each, so at most 63 of them, all
+//! points but the room, stand above each other: a line of 64 points has as many. The sort splits
+//! more than 8 rows at cables on which cuts differ, and of these at most 62 are independent, the
+//! points but server and room; the last three cannot tell more than 8 rows apart, so at most 60 of
+//! its calls do. The walk by which a plan is found trimmed visits one point in each call, so on a
+//! line at most 63 of them stand above each other, all points but the server; they are gone before
+//! rows are kept.
 
 use std::arch::asm;
 use std::fs;

@@ -1,5 +1,5 @@
-//! The call for trimmed plans: it lists what the list call lists, if every point and every present cable
-//! is useful, and refuses any other plan with 26.
+//! The call for trimmed plans: it lists what the list call lists, if every point and every present
+//! cable is useful, and refuses any other plan with 26.
 
 use cutlist_tests::answers::{Part, Row};
 use cutlist_tests::halls;
@@ -12,13 +12,14 @@ use cutlist_tests::rng::Rng;
 use cutlist_tests::tally::Tally;
 use cutlist_tests::{brute, compare, ordinary, sides, sys};
 
-/// Whether all of a plan lies on ways from server to room, taken one by one; server and room do always.
+/// Whether all of a plan lies on ways from server to room, taken one by one; server and room do
+/// always.
 fn is_trimmed(record: &Record) -> bool {
     brute::relevant(record) == record.whole()
 }
 
-/// The plan is listed as these rows, with the rows needed, with more, with one less and with different
-/// numbers of them.
+/// The plan is listed as these rows, with the rows needed, with more, with one less and with
+/// different numbers of them.
 fn assert_listed(rng: &mut Rng, record: &Record, rows: &[Row]) {
     compare::part_and_list(rng, record, record.whole(), rows);
 }
@@ -87,8 +88,8 @@ fn laid(plan: &Record, numbers: &[usize], ends: &[(u8, u8)]) -> Vec<Record> {
     found
 }
 
-/// Every way to lay up to five cables among two, three and four points, loops and parallel cables too,
-/// for every server and room: refused exactly if some point or present cable is not useful.
+/// Every way to lay up to five cables among two, three and four points, loops and parallel cables
+/// too, for every server and room: refused exactly if some point or present cable is not useful.
 #[test]
 fn all_plans_of_up_to_4_points() {
     let mut rng = Rng::new(202);
@@ -138,8 +139,8 @@ fn random_plans_of_up_to_7_points() {
     tally.assert_each(&[0, 26], 1_000);
 }
 
-/// What hangs on one point, or on nothing, makes a trimmed plan one that is not; without it the plan is
-/// trimmed again.
+/// Plans cut down to their useful part are listed as they were, and refused with anything more that
+/// hangs on one point or on nothing.
 #[test]
 fn larger_random_plans() {
     let mut rng = Rng::new(204);
@@ -224,8 +225,8 @@ fn halls_of_many_points() {
     }
 }
 
-/// On a line of 64 points each server and room: trimmed if they are its ends, for else a part hangs on
-/// one of them.
+/// On a line of 64 points each server and room: trimmed if they are its ends, for else a part hangs
+/// on one of them.
 #[test]
 fn every_server_and_room_on_a_line_and_on_a_circle() {
     let mut rng = Rng::new(207);
@@ -276,7 +277,8 @@ fn exchanged(record: &Record, one: u8, other: u8) -> Record {
     })
 }
 
-/// Of 64 points each in turn is the only one that is not useful: it hangs on nothing, or on any other.
+/// Of 64 points each in turn is the only one that is not useful: it hangs on nothing, or on any
+/// other.
 #[test]
 fn every_point_that_hangs() {
     let mut rng = Rng::new(216);
@@ -293,8 +295,8 @@ fn every_point_that_hangs() {
     }
 }
 
-/// Two blocks that share one point: trimmed if server and room lie in both, each in one, and not if the
-/// point that they share is server or room, or both lie in one block.
+/// Two blocks that share one point: trimmed if server and room lie in both, each in one, and not if
+/// the point that they share is server or room, or both lie in one block.
 #[test]
 fn blocks_that_share_a_point() {
     let mut rng = Rng::new(209);
@@ -400,8 +402,8 @@ fn the_order_of_refusals() {
     met.assert_each(&[0, 9, 11, 12, 13, 26], 1);
 }
 
-/// Every fault, with rows that suffice, too few, and different numbers of them, in plans that would be
-/// trimmed or not.
+/// Every fault, with rows that suffice, too few, and different numbers of them, in plans that would
+/// be trimmed or not.
 #[test]
 fn faulty_records_come_before_26() {
     let mut rng = Rng::new(212);

@@ -1,5 +1,5 @@
-//! `cutlist trimmed FILE ..`: the lists of plans that were trimmed already, as they are printed without
-//! the word, and how it ends.
+//! `cutlist trimmed FILE ..`: the lists of plans that were trimmed already, as they are printed
+//! without the word, and how it ends.
 
 use std::ffi::OsStr;
 use std::io;

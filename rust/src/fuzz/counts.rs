@@ -42,8 +42,9 @@ pub struct Counts {
     pub looped: u64,
     pub useful_looped: u64,
     pub loops_added: u64,
-    /// Of the halls listed as trimmed those without a route, and the most points; of those that were not
-    /// trimmed the ones that would be without their loops, and the ones with different numbers of rows.
+    /// Of the halls listed as trimmed those without a route, and the most points; of those that were
+    /// not trimmed the ones that would be without their loops, and the ones with different numbers
+    /// of rows.
     pub trimmed_without_a_route: u64,
     pub most_trimmed_points: u8,
     pub untrimmed_by_loops: u64,

@@ -45,8 +45,8 @@ pub fn digest(cases: impl IntoIterator<Item = Vec<u8>>) -> u64 {
     digest_of(cases, answers)
 }
 
-/// The number of what they are listed as by the call for trimmed plans, as they are and cut down to the
-/// useful part that the library finds.
+/// The number of what they are listed as by the call for trimmed plans, as they are and cut down to
+/// the useful part that the library finds.
 pub fn trimmed_digest(cases: impl IntoIterator<Item = Vec<u8>>) -> u64 {
     digest_of(cases, |case, digest| {
         let mut rng = Rng::new(case.set);
@@ -117,8 +117,8 @@ fn answers(case: &Case, digest: &mut Digest) {
 /// A call that lists into lent rows.
 type ListCall = fn(&Record, &mut [u64], &mut [Nodes]) -> (u8, usize);
 
-/// Lists the record of a case, or another, into as many rows as are ever lent, and then into those that
-/// the case lends; gives the cuts, unless they are more.
+/// Lists the record of a case, or another, into as many rows as are ever lent, and then into those
+/// that the case lends; gives the cuts, unless they are more.
 fn lists(
     call: ListCall,
     case: &Case,

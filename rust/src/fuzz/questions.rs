@@ -123,8 +123,9 @@ fn other_loops(case: &Case, known: &Known, rng: &mut Rng, counts: &mut Counts) {
     }
 }
 
-/// An accepted hall has the list that it has when it is cut down to its useful part, under other numbers.
-/// That is a trimmed plan, and none any more with something that hangs on one point or on nothing.
+/// An accepted hall has the list that it has when it is cut down to its useful part, under other
+/// numbers. That is a trimmed plan, and none any more with something that hangs on one point or on
+/// nothing.
 fn trimmed(case: &Case, known: &Known, rng: &mut Rng, counts: &mut Counts) {
     let (plan, numbers) = plans::trimmed(rng, &case.record, known.part);
     let known = Known {
