@@ -282,26 +282,32 @@ const LISTERS: [&str; 3] = ["library", "ordinary", "before"];
 /// The same for the calls that ordinary Rust has not.
 const BUILDS: [&str; 2] = ["library", "before"];
 
+/// The width of a figure, and of one for a whole list.
+const WIDTH: usize = 8;
+const WIDE: usize = 10;
+
 /// The headings over figures, of the library and then of others with the ratio to each.
-fn headings(names: &[&str]) -> String {
+fn headings(names: &[&str], width: usize) -> String {
     let others = names[1..]
         .iter()
-        .map(|name| format!(" {name:>8} {:>5}", "ratio"));
-    format!(" {:>8}", names[0]) + &others.collect::<String>()
+        .map(|name| format!(" {name:>width$} {:>5}", "ratio"));
+    format!(" {:>width$}", names[0]) + &others.collect::<String>()
 }
 
 /// The unit below each.
-fn units(names: &[&str], unit: &str) -> String {
-    let others = names[1..].iter().map(|_| format!(" {unit:>8} {:>5}", ""));
-    format!(" {unit:>8}") + &others.collect::<String>()
+fn units(names: &[&str], unit: &str, width: usize) -> String {
+    let others = names[1..]
+        .iter()
+        .map(|_| format!(" {unit:>width$} {:>5}", ""));
+    format!(" {unit:>width$}") + &others.collect::<String>()
 }
 
 /// The figures of one line, in a unit of so many nanoseconds.
-fn figures(times: &[Duration], unit: usize) -> String {
+fn figures(times: &[Duration], unit: usize, width: usize) -> String {
     let digits = usize::from(unit > 1);
     let figure = |time: Duration| {
         let figure = time.as_nanos() as f64 / unit as f64;
-        format!(" {figure:>8.digits$}")
+        format!(" {figure:>width$.digits$}")
     };
     let others = times[1..]
         .iter()
@@ -333,7 +339,7 @@ fn measure(listers: &[Lister], name: &str, hall: &Record) {
         print!("{}", line(name, hall, count, rows, calls));
         for numbers in [Numbers::AsTheyStand, Numbers::Anew] {
             let times = medians(listers, hall, numbers, rows, calls, Timer::of(slowest));
-            print!("{}", figures(&times, count));
+            print!("{}", figures(&times, count, WIDTH));
         }
         println!();
     }
@@ -363,7 +369,7 @@ fn ample(hall: &Record) -> usize {
 /// The table for lists.
 fn lists(listers: &[Lister]) {
     let names = &LISTERS[..listers.len()];
-    let (headings, units) = (headings(names), units(names, "ns/row"));
+    let (headings, units) = (headings(names, WIDTH), units(names, "ns/row", WIDTH));
     let width = headings.len() - 1;
     println!("\n{:<68} {:<width$} numbered anew", "", "as it stands");
     head("hall", &headings.repeat(2), &units.repeat(2));
@@ -505,7 +511,7 @@ fn head(title: &str, headings: &str, units: &str) {
 fn head_of_listers(title: &str, listers: &[Lister], unit: &str) {
     let names = &LISTERS[..listers.len()];
     println!();
-    head(title, &headings(names), &units(names, unit));
+    head(title, &headings(names, WIDTH), &units(names, unit, WIDTH));
 }
 
 /// The table of one kind of hall from under a thousand rows to over a million, with so many lent: by how
@@ -538,7 +544,7 @@ fn flatness(listers: &[Lister], rows: impl Fn(&Record) -> usize) -> f64 {
         let times = turns.medians();
         let name = format!("two layers of {points}");
         let line = line(&name, hall, count, lent, calls * ROUNDS);
-        println!("{line}{}", figures(&times, count));
+        println!("{line}{}", figures(&times, count, WIDTH));
         for (time, costs) in times.into_iter().zip(&mut costs) {
             costs.push(time.as_nanos() as f64 / count as f64);
         }
@@ -580,7 +586,7 @@ fn slowest(listers: &[Lister]) {
             let (numbers, calls) = (Numbers::AsTheyStand, CALLS.1);
             let times = medians(listers, &hall, numbers, rows, calls, Timer::Processor);
             let line = line(name, &hall, count, rows, calls);
-            println!("{line}{}", figures(&times, 1000));
+            println!("{line}{}", figures(&times, 1000, WIDTH));
         }
     }
 }
@@ -600,7 +606,7 @@ fn median_calls<R>(builds: &[Build], call: impl Fn(&Build) -> R) -> Vec<Duration
 /// halls with long ways and short ones.
 fn other_calls(builds: &[Build]) {
     let names = &BUILDS[..builds.len()];
-    let (headings, units) = (headings(names), units(names, "ns/call"));
+    let (headings, units) = (headings(names, WIDTH), units(names, "ns/call", WIDTH));
     let width = headings.len() - 1;
     println!();
     println!(
@@ -634,9 +640,9 @@ fn other_calls(builds: &[Build]) {
             "{name:<32} {:>6} {:>6}{} {:>6}{}",
             hall.nodes,
             hall.present.count_ones(),
-            figures(&useful, 1),
+            figures(&useful, 1, WIDTH),
             cut.count_ones(),
-            figures(&judging, 1)
+            figures(&judging, 1, WIDTH)
         );
     }
 }
@@ -728,9 +734,9 @@ fn trimmed(numbers: Numbers) -> Vec<(String, f64)> {
         Numbers::AsTheyStand => "trimmed plans, as they stand",
         Numbers::Anew => "trimmed plans, numbered anew",
     };
-    let headings = [steps, lists, steps].map(|names| headings(&names));
-    let units = [(steps, "ns/call"), (lists, "ns/row"), (steps, "ns/call")]
-        .map(|(names, unit)| units(&names, unit));
+    let columns = [(steps, WIDTH), (lists, WIDE), (steps, WIDTH)];
+    let headings = columns.map(|(names, width)| headings(&names, width));
+    let units = columns.map(|(names, width)| units(&names, "ns/call", width));
     let width = headings[..2].concat().len() - 1;
     println!("\n{:<68} {:<width$} ordinary", "", "library");
     head(title, &headings.concat(), &units.concat());
@@ -745,9 +751,9 @@ fn trimmed(numbers: Numbers) -> Vec<(String, f64)> {
         println!(
             "{}{}{}{}",
             line(&name, &hall, count, count, calls),
-            figures(&[test, trimming], 1),
-            figures(&lists, count),
-            figures(&[other_test, other_trimming], 1)
+            figures(&[test, trimming], 1, WIDTH),
+            figures(&lists, 1, WIDE),
+            figures(&[other_test, other_trimming], 1, WIDTH)
         );
         if test >= trimming {
             dear.push((name, ratio(test, trimming)));

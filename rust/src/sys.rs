@@ -150,7 +150,7 @@ pub mod capi {
 }
 
 /// A call that lists into lent rows: of the build that is linked, and of any.
-type ListCall = unsafe fn(*const Record, *mut u64, usize, *mut Nodes, usize, *mut usize) -> u8;
+pub type ListCall = unsafe fn(*const Record, *mut u64, usize, *mut Nodes, usize, *mut usize) -> u8;
 type BuildListCall =
     unsafe fn(&Build, *const Record, *mut u64, usize, *mut Nodes, usize, *mut usize) -> u8;
 

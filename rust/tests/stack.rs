@@ -24,7 +24,7 @@ use cutlist_tests::record::Record;
 use cutlist_tests::reference;
 use cutlist_tests::rng::Rng;
 use cutlist_tests::sides;
-use cutlist_tests::sys::{self, capi};
+use cutlist_tests::sys::{self, capi, ListCall};
 use cutlist_tests::tally::Tally;
 
 /// Stacks are painted with this.
@@ -76,9 +76,6 @@ impl Rows {
         }
     }
 }
-
-/// A call that lists into lent rows.
-type ListCall = unsafe fn(*const Record, *mut u64, usize, *mut Nodes, usize, *mut usize) -> u8;
 
 /// The calls that take the most.
 const LISTING: [ListCall; 2] = [capi::cutlist_list, capi::cutlist_list_trimmed];

@@ -12,18 +12,20 @@ use Rattle.bitset.proofs.Sets.{not-zero, empty-or-member}
 use Rattle.network.specs.declared.Network.{Network}
 use Rattle.network.specs.Record.{Stored, faultOf, present}
 use Rattle.network.specs.Ends.{Loop}
-use Rattle.graph.specs.Paths.{Minpath}
+use Rattle.graph.specs.Paths.{Minpath, SameMinpaths}
 use Rattle.graph.specs.Cuts.{RelevantNode, Trimmed}
+use Rattle.graph.specs.Lists.{SameList}
 use Rattle.graph.specs.Relevant.{trimmed}
 use Rattle.graph.proofs.Sound.{Sound, accepted-sound}
 use Rattle.graph.proofs.Trimmed.{trimmed-whole, trimmed-iff, trimmed-loop}
 use Rattle.connectivity.specs.Answers.{relevantOf}
 use Rattle.connectivity.proofs.Answers.{part-refusal, part-nodes, part-edges}
-use Rattle.listing.specs.List.{listRefusal}
-use Rattle.listing.specs.Trimmed.{trimmedRefusal, trimmedListedBy}
+use Rattle.listing.specs.List.{listRefusal, listedBy, cutRowsAfter}
+use Rattle.listing.specs.Trimmed.{trimmedRefusal, trimmedListedBy, trimmedCutRows}
 use Rattle.listing.proofs.Call.{answered-listing}
 use Rattle.listing.proofs.Trimmed.{refusal-untrimmed, refusal-ordinary, answers-ordinary, trimmed-refusal}
 use Rattle.demands.specs.Trimmed.{SameListing, TrimmedListed}
+use Rattle.demands.proofs.DemandThree.{demand-three}
 
 -- Where the refusal is that of the list call, so is all that the call does.
 same : (N : Network) (cuts sides : List ℕ) → trimmedRefusal N cuts sides ≡ listRefusal N cuts sides → SameListing N cuts sides
@@ -41,6 +43,27 @@ takes N stored t cuts sides =
     same N cuts sides (refusal-ordinary N cuts sides (λ e.
     let (ok, lacks) = refusal-untrimmed N cuts sides .0 e in
     true≢false (sym (is-trimmed N (accepted-sound N stored ok) t) ∙ lacks)))
+
+-- ---- equal lists
+
+-- A list by the call is one by the list call, and so compared with another list as that is.
+either-lists : (N M : Network) → Stored N → Stored M → (cuts sides cuts′ sides′ : List ℕ)
+    → trimmedListedBy N cuts sides .refusal ≡ 0 → listedBy M cuts′ sides′ .refusal ≡ 0
+    → SameList (trimmedListedBy N cuts sides .count) (trimmedCutRows N cuts sides) (listedBy M cuts′ sides′ .count) (cutRowsAfter M cuts′ sides′)
+    ↔ SameMinpaths N M
+either-lists N M stored stored′ cuts sides cuts′ sides′ none none′ =
+    let one = rows N cuts sides none in
+    rw (one .count, one .cut-rows) (demand-three .lists N M stored stored′ cuts sides cuts′ sides′ (sym (one .refusal) ∙ none) none′)
+
+lists : (N M : Network) → Stored N → Stored M → (cuts sides cuts′ sides′ : List ℕ)
+    → trimmedListedBy N cuts sides .refusal ≡ 0 → trimmedListedBy M cuts′ sides′ .refusal ≡ 0
+    → SameList (trimmedListedBy N cuts sides .count) (trimmedCutRows N cuts sides) (trimmedListedBy M cuts′ sides′ .count) (trimmedCutRows M cuts′ sides′)
+    ↔ SameMinpaths N M
+lists N M stored stored′ cuts sides cuts′ sides′ none none′ =
+    let other = rows M cuts′ sides′ none′ in
+    rw (other .count, other .cut-rows) (either-lists N M stored stored′ cuts sides cuts′ sides′ none (sym (other .refusal) ∙ none′))
+
+-- ---- which plans are trimmed
 
 module _ (N : Network) (stored : Stored N) (ok : faultOf N ≡ 0) where
   sound : Sound N
@@ -99,4 +122,12 @@ module _ (N : Network) (stored : Stored N) (ok : faultOf N ≡ 0) where
     )
 
 pub trimmed-listed : TrimmedListed
-trimmed-listed = record { rows = rows; trimmed = takes; part = part; loop = loop; no-route = no-route }
+trimmed-listed = record {
+  rows = rows;
+  trimmed = takes;
+  lists = lists;
+  either-lists = either-lists;
+  part = part;
+  loop = loop;
+  no-route = no-route;
+}

@@ -5,7 +5,7 @@
 use mathlib.Core.Path.{_≡_, refl, sym, ap, _∙_}
 use mathlib.Core.Bool.{Bool, true, false, not}
 use mathlib.Core.List.{List}
-use mathlib.Core.Logic.{_↔_}
+use mathlib.Core.Logic.{_↔_, Dec·not-not}
 use Prim.Native.Nat.{ℕ}
 use native.Mathlib.Decide.{ℕ-discrete}
 use native.Mathlib.Omega.{arith}
@@ -14,18 +14,20 @@ use denote.Floats.{is-true}
 use lib.Dec.{T}
 use lib.ListN.{length}
 use Rattle.sequences.specs.Words.{onto}
+use Rattle.sequences.proofs.Tests.{T-dec}
+use Rattle.bitset.proofs.Subsets.{same-test}
 use Rattle.network.specs.declared.Network.{Network}
 use Rattle.network.specs.Record.{among, faultOf, Stored}
 use Rattle.network.proofs.Refusals.{none-then, some-then, refused-some}
 use Rattle.network.proofs.Numbers.{not-fault}
-use Rattle.graph.specs.Cuts.{Untrimmed}
+use Rattle.graph.specs.Cuts.{Trimmed, Untrimmed}
 use Rattle.graph.specs.Relevant.{trimmed}
 use Rattle.graph.proofs.Sound.{accepted-sound}
 use Rattle.graph.proofs.Trimmed.{trimmed-iff, untrimmed-iff}
 use Rattle.trimmed.specs.Trimmed.{trimmedFault}
 use Rattle.trimmed.proofs.Faults.{trimmed-faulty, trimmed-refused, trimmed-none, trimmed-ok}
 use Rattle.listing.specs.declared.Listed.{Listed}
-use Rattle.listing.specs.List.{mincuts, sourceSides, listedUnder, cutRowsUnder, sideRowsUnder, listRefusal, listedBy, cutRowsAfter, sideRowsAfter}
+use Rattle.listing.specs.List.{mincuts, sourceSides, listedUnder, cutRowsUnder, sideRowsUnder, listRefusal, listedBy, cutRowsAfter, sideRowsAfter, ListMeans}
 use Rattle.listing.specs.Trimmed.{trimmedRefusal, trimmedListedBy, trimmedCutRows, trimmedSideRows, TrimmedMeans}
 use Rattle.listing.proofs.Refusals.{Case, faulty, unpaired, outnumbered, complete, call-case, refusal-faulty, refusal-unpaired, refusal-outnumbered, refusal-none}
 use Rattle.listing.proofs.Call.{Answered, answered-listing}
@@ -40,12 +42,12 @@ module _ (N : Network) (cuts sides : List ℕ) where
   -- ---- the refusal
 
   -- What refuses the network refuses the call.
-  pub trimmed-first : (trimmedFault N ≡ 0 → ⊥) → trimmedRefusal N cuts sides ≡ trimmedFault N
+  trimmed-first : (trimmedFault N ≡ 0 → ⊥) → trimmedRefusal N cuts sides ≡ trimmedFault N
   unfolding trimmedRefusal
   trimmed-first some = some-then (trimmedFault N) (listRefusal N cuts sides) (omega arith)
 
   -- Otherwise the list call's refusal is the call's.
-  pub trimmed-then : trimmedFault N ≡ 0 → trimmedRefusal N cuts sides ≡ listRefusal N cuts sides
+  trimmed-then : trimmedFault N ≡ 0 → trimmedRefusal N cuts sides ≡ listRefusal N cuts sides
   unfolding trimmedRefusal
   trimmed-then none = none-then (listRefusal N cuts sides) none
 
@@ -122,10 +124,16 @@ module _ (N : Network) (cuts sides : List ℕ) where
       → TrimmedAnswered N cuts sides r cuts′ sides′ × TrimmedMeans N cuts sides (r .refusal) (r .count) cuts′ sides′
   trimmed-means stored {r} {cuts′} {sides′} a =
       let by : r .refusal ≡ trimmedRefusal N cuts sides = ap (λ (x : Listed). x .refusal) (a .0) ∙ trimmed-refusal in
-      let ordinary : (r .refusal ≡ 26 → ⊥) → Answered N cuts sides r cuts′ sides′ = λ other.
-      let same = answers-ordinary (refusal-ordinary (λ e. other (by ∙ e))) in
+      let other : (k : ℕ) → (k ≡ 26 → ⊥) → r .refusal ≡ k → r .refusal ≡ 26 → ⊥ = λ k ne e f. ne (sym e ∙ f) in
+      let ordinary : (r .refusal ≡ 26 → ⊥) → Answered N cuts sides r cuts′ sides′ = λ ne.
+      let same = answers-ordinary (refusal-ordinary (λ e. ne (by ∙ e))) in
       (a .0 ∙ same .0, a .1 ∙ same .1, a .2 ∙ same .2) in
-      let lacks : faultOf N ≡ 0 → T (not (trimmed N)) ↔ Untrimmed N = λ ok. untrimmed-iff N (accepted-sound N stored ok) in (
+      let listed : (r .refusal ≡ 26 → ⊥) → ListMeans N cuts sides (r .refusal) (r .count) cuts′ sides′ =
+      λ ne. answered-means N stored cuts sides (ordinary ne) .1 in
+      let lacks : faultOf N ≡ 0 → T (not (trimmed N)) ↔ Untrimmed N = λ ok. untrimmed-iff N (accepted-sound N stored ok) in
+      let whole : faultOf N ≡ 0 → T (trimmed N) ↔ Trimmed N = λ ok. trimmed-iff N (accepted-sound N stored ok) in
+      let is : faultOf N ≡ 0 → (r .refusal ≡ 26 → ⊥) → Trimmed N = λ ok ne.
+      whole ok .0 (Dec·not-not (T-dec (trimmed N)) .0 (λ n. ne (by ∙ refusal-untrimmed .1 (ok, same-test (trimmed N) false n absurd)))) in (
         a,
         record {
           stored = stored;
@@ -133,11 +141,19 @@ module _ (N : Network) (cuts sides : List ℕ) where
             λ e. let p = refusal-untrimmed .0 (sym by ∙ e) in (p .0, lacks (p .0) .0 (rw (p .1) tt)),
             λ p. by ∙ refusal-untrimmed .1 (p .0, not-true (trimmed N) (is-true _ (lacks (p .0) .1 (p .1)))),
           );
-          trimmed = λ none.
-              let p = trimmed-ok N (first-none (sym by ∙ none)) in
-              trimmed-iff N (accepted-sound N stored (p .0)) .0 (rw (p .1) tt);
-          ordinary = λ other. answered-listing (ordinary other);
-          listed = λ other. answered-means N stored cuts sides (ordinary other) .1;
+          complete = λ none.
+              let ne = other 0 (λ e. omega arith) none in
+              (is (trimmed-ok N (first-none (sym by ∙ none)) .0) ne, listed ne .complete none);
+          outnumbered = (
+            λ e.
+                let ne = other 12 (λ f. omega arith) e in
+                let (ok, paired, more) = listed ne .outnumbered .0 e in
+                (ok, is ok ne, paired, more),
+            λ (ok, t, paired, more).
+                let ne : r .refusal ≡ 26 → ⊥ = λ e. rw (refusal-untrimmed .0 (sym by ∙ e) .1) at (whole ok .1 t) in
+                listed ne .outnumbered .1 (ok, paired, more),
+          );
+          ordinary = λ ne. answered-listing (ordinary ne);
         },
       )
     where

@@ -13,12 +13,14 @@ use mathlib.Core.List.{List}
 use mathlib.Core.Logic.{_↔_}
 use mathlib.Core.Path.{_≡_}
 use Prim.Native.Nat.{ℕ}
+use lib.ListN.{length}
 use Rattle.network.specs.declared.Network.{Network}
 use Rattle.network.specs.Record.{_then_, faultOf, Stored}
 use Rattle.graph.specs.Cuts.{Trimmed, Untrimmed}
+use Rattle.graph.specs.Lists.{CompleteList, Outnumber}
 use Rattle.trimmed.specs.Trimmed.{trimmedFault}
 use Rattle.listing.specs.declared.Listed.{Listed}
-use Rattle.listing.specs.List.{listedUnder, cutRowsUnder, sideRowsUnder, listRefusal, Listing, ListMeans}
+use Rattle.listing.specs.List.{listedUnder, cutRowsUnder, sideRowsUnder, listRefusal, Listing}
 
 -- The record's first fault, then 26: some point or present cable is not useful; then what the list call refuses
 unfoldable pub trimmedRefusal : Network → List ℕ → List ℕ → ℕ
@@ -40,11 +42,12 @@ pub record TrimmedListing (N : Network) (cuts sides : List ℕ) (r n : ℕ) (cut
   pub cut-rows : cuts′ ≡ trimmedCutRows N cuts sides
   pub side-rows : sides′ ≡ trimmedSideRows N cuts sides
 
--- By the definitions of graph theory: 26 is given exactly if the record has no fault and some node or present edge is not relevant; with any
--- other number, and where it lists, the call has done what the list call does.
+-- By the definitions of graph theory: 26 is given exactly if the record has no fault and some node or present edge is not relevant; beside
+-- the refusal 0 stands the complete list of a trimmed network. With any other number than 26, and where it lists, the call has done what the
+-- list call does.
 pub record TrimmedMeans (N : Network) (cuts sides : List ℕ) (r n : ℕ) (cuts′ sides′ : List ℕ) : Type 0 where
   pub stored : Stored N
   pub untrimmed : (r ≡ 26) ↔ ((faultOf N ≡ 0) × Untrimmed N)
-  pub trimmed : r ≡ 0 → Trimmed N
+  pub complete : r ≡ 0 → Trimmed N × CompleteList N n cuts′ sides′
+  pub outnumbered : (r ≡ 12) ↔ ((faultOf N ≡ 0) × Trimmed N × (length cuts ≡ length sides) × Outnumber N (length cuts))
   pub ordinary : (r ≡ 26 → ⊥) → Listing N cuts sides r n cuts′ sides′
-  pub listed : (r ≡ 26 → ⊥) → ListMeans N cuts sides r n cuts′ sides′
