@@ -79,6 +79,17 @@ module _ (N : Network) (stored : Stored N) (ok : faultOf N ≡ 0) where
   loop k v l cuts sides =
       trimmed-refusal N cuts sides ∙ refusal-untrimmed N cuts sides .1 (ok, trimmed-loop N sound (λ none. none k v l))
 
+  -- Of two points each is a terminal.
+  two-points : N .nodes ≡ 2 → present N ≡ 0 → Trimmed N
+  two-points two bare = record {
+    nodes = λ v h. go v h (ℕ-discrete v (N .source));
+    edges = λ e m. absurd (not-zero e (rw bare at m));
+  }
+    where
+      go : (v : ℕ) → v < N .nodes → Dec (v ≡ N .source) → RelevantNode N v
+      go v h (yes e) = inl e
+      go v h (no n) = inr (inl (omega (arith, sound .differ, sound .source-lt, sound .sink-lt)))
+
   -- ---- without a route
 
   module _ (apart : (r : ℕ) → Minpath N r → ⊥) where
@@ -100,26 +111,12 @@ module _ (N : Network) (stored : Stored N) (ok : faultOf N ≡ 0) where
         go (inr a) (inl b) (inr c) = omega arith
         go (inr a) (inr b) c = omega arith
 
-    -- Of two points each is one of them.
-    either : N .nodes ≡ 2 → (v : ℕ) → v < N .nodes → (v ≡ N .source) ⊎ (v ≡ N .sink)
-    either two v h = go (ℕ-discrete v (N .source))
-      where
-        go : Dec (v ≡ N .source) → (v ≡ N .source) ⊎ (v ≡ N .sink)
-        go (yes e) = inl e
-        go (no n) = inr (omega (arith, sound .differ, sound .source-lt, sound .sink-lt))
-
-    no-route : Trimmed N ↔ ((N .nodes ≡ 2) × (present N ≡ 0))
-    no-route = (
-      λ t.
-          let few : 2 < N .nodes → ⊥ = λ h. third h (λ v l. terminal v (t .nodes v l)) in (
-            omega (arith, few, sound .differ, sound .source-lt, sound .sink-lt),
-            elim (empty-or-member (present N)) [ inl none ↦ none | inr m ↦ absurd (apart _ (t .edges (m .0) (m .1) .1 .0)) ],
-          ),
-      λ p. record {
-        nodes = λ v h. elim (either (p .0) v h) [ inl e ↦ inl e | inr e ↦ inr (inl e) ];
-        edges = λ e m. absurd (not-zero e (rw (p .1) at m));
-      },
-    )
+    no-route : Trimmed N → (N .nodes ≡ 2) × (present N ≡ 0)
+    no-route t =
+        let few : 2 < N .nodes → ⊥ = λ h. third h (λ v l. terminal v (t .nodes v l)) in (
+          omega (arith, few, sound .differ, sound .source-lt, sound .sink-lt),
+          elim (empty-or-member (present N)) [ inl none ↦ none | inr m ↦ absurd (apart _ (t .edges (m .0) (m .1) .1 .0)) ],
+        )
 
 pub trimmed-listed : TrimmedListed
 trimmed-listed = record {
@@ -129,5 +126,6 @@ trimmed-listed = record {
   either-lists = either-lists;
   part = part;
   loop = loop;
+  two-points = two-points;
   no-route = no-route;
 }

@@ -42,5 +42,6 @@ pub record TrimmedListed : Type 0 where
       → Trimmed N ↔ ((relevantOf N .nodes .0 ≡ 2 ^ N .nodes - 1) × (relevantOf N .edges .0 ≡ present N))
   -- A plan with a loop is refused with 26.
   pub loop : (N : Network) → Stored N → faultOf N ≡ 0 → (k v : ℕ) → Loop N k v → (cuts sides : List ℕ) → trimmedListedBy N cuts sides .refusal ≡ 26
-  -- Without a route, two points without a cable are trimmed, and nothing else is.
-  pub no-route : (N : Network) → Stored N → faultOf N ≡ 0 → ((r : ℕ) → Minpath N r → ⊥) → Trimmed N ↔ ((N .nodes ≡ 2) × (present N ≡ 0))
+  -- Two points without a cable are trimmed, and nothing else without a route is.
+  pub two-points : (N : Network) → Stored N → faultOf N ≡ 0 → N .nodes ≡ 2 → present N ≡ 0 → Trimmed N
+  pub no-route : (N : Network) → Stored N → faultOf N ≡ 0 → ((r : ℕ) → Minpath N r → ⊥) → Trimmed N → (N .nodes ≡ 2) × (present N ≡ 0)
