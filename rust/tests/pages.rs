@@ -179,27 +179,14 @@ fn assert_same_list(record: &Record, arrays: &Arrays, trimmed: bool, at: At) {
         let lent_cuts = Lent::new(&vec![7u64; lent], at);
         let lent_sides = Lent::new(&vec![7 as Nodes; lent], at);
         let (cut_rows, side_rows, out) = (lent_cuts.place, lent_sides.place, count.place);
+        macro_rules! listed {
+            ($name:ident) => {
+                call!($name, record, arrays, cut_rows, lent, side_rows, lent, out)
+            };
+        }
         let refusal = match trimmed {
-            true => call!(
-                cutlist_list_trimmed,
-                record,
-                arrays,
-                cut_rows,
-                lent,
-                side_rows,
-                lent,
-                out
-            ),
-            false => call!(
-                cutlist_list,
-                record,
-                arrays,
-                cut_rows,
-                lent,
-                side_rows,
-                lent,
-                out
-            ),
+            true => listed!(cutlist_list_trimmed),
+            false => listed!(cutlist_list),
         };
         assert_eq!((refusal, count.values()[0]), answer, "{record:?}");
         assert_eq!(lent_cuts.values(), &cuts[..lent]);

@@ -10,3 +10,4 @@ mod streams;
 mod text;
 mod trimmed;
 mod usage;
+mod words;

@@ -1,20 +1,16 @@
 //! `cutlist trimmed FILE ..`: the lists of plans that were trimmed already, as they are printed
 //! without the word, and how it ends.
 
-use std::ffi::OsStr;
-use std::io;
-use std::os::unix::ffi::OsStrExt;
 use std::path::Path;
-use std::process::{Command, Stdio};
+use std::process::Command;
 
 use super::running::*;
+use super::words::LOST;
 
 /// Three points in a line, and a fourth that hangs on the second of them.
 const SPUR: &str = "50 04 53 00 02 43 00 00 01 43 01 01 02 43 02 01 03 45";
 
 const NOT_TRIMMED: &str = "some point or present cable is not useful";
-
-const LOST: &str = "standard output did not take the whole answer: ";
 
 /// Lists files whose plans were trimmed already.
 fn trimmed(files: &[&Path]) -> Ended {
@@ -106,44 +102,6 @@ fn what_is_wrong_with_the_plan_comes_before_26() {
 }
 
 #[test]
-fn no_beginning_of_a_plan_has_a_list() {
-    for end in 0..BRIDGE.len() {
-        let plan = &BRIDGE[..end];
-        feed(Command::new(script()).args(["trimmed", "-"]), plan)
-            .refused(1, "the plan stops early");
-    }
-}
-
-#[test]
-fn a_plan_comes_as_it_comes_without_the_word() {
-    let folder = Folder::new();
-    let plan = &folder.file("plan", BRIDGE);
-    let text = &folder.file("plan.hex", hexadecimal(BRIDGE));
-    trimmed(&[plan]).listed(BRIDGE_LIST);
-    trimmed(&[text]).listed(BRIDGE_LIST);
-    feed(Command::new(script()).args(["trimmed", "-"]), BRIDGE).listed(BRIDGE_LIST);
-    feed(Command::new(script()).args(["trimmed", "--", "-"]), BRIDGE).listed(BRIDGE_LIST);
-    bash("cutlist trimmed <(cat \"$1\")", &[plan]).listed(BRIDGE_LIST);
-    bash("cat \"$1\" | cutlist trimmed /dev/stdin", &[plan]).listed(BRIDGE_LIST);
-    let pieces = "{ head -c 11 \"$1\"; sleep 0.1; tail -c +12 \"$1\"; }";
-    bash(&format!("{pieces} | cutlist trimmed -"), &[plan]).listed(BRIDGE_LIST);
-    let fifo = &folder.0.join("fifo.hex");
-    let line = "mkfifo \"$2\"; cat \"$1\" >\"$2\" & cutlist trimmed \"$2\"";
-    bash(line, &[text, fifo]).listed(BRIDGE_LIST);
-}
-
-#[test]
-fn the_list_program_is_not_asked() {
-    let folder = Folder::new();
-    let plan = folder.file("plan", BRIDGE);
-    run(Command::new(env!("CARGO_BIN_EXE_cutlist"))
-        .arg(&folder.0)
-        .arg("trimmed")
-        .arg(plan))
-    .listed(BRIDGE_LIST);
-}
-
-#[test]
 fn several_files_stand_each_below_its_name() {
     let folder = Folder::new();
     let plan = &folder.file("plan", BRIDGE);
@@ -189,125 +147,13 @@ fn standard_input_is_not_taken_twice() {
 }
 
 #[test]
-fn a_file_must_be_named() {
-    for words in [&["trimmed"][..], &["trimmed", "--"]] {
-        let ended = run(Command::new(script()).args(words));
-        ended.failed(2, &["trimmed needs a FILE", "./trimmed", "Usage: cutlist"]);
-    }
-}
-
-#[test]
-fn what_cannot_be_read_is_said() {
-    let folder = Folder::new();
-    trimmed(&[&folder.0.join("missing")]).failed(2, &["missing: No such file or directory"]);
-    trimmed(&[&folder.0]).failed(2, &["Is a directory"]);
-    trimmed(&[Path::new("")]).failed(2, &["No such file or directory"]);
-    let malformed = &folder.file("plan.hex", hexadecimal(BRIDGE) + "4");
-    trimmed(&[malformed]).failed(2, &["plan.hex: line 1: '4' is not bytes"]);
-    bash("cutlist trimmed - <&-", &[]).failed(2, &["-: "]);
-    bash("cutlist trimmed - 0>/dev/null", &[]).failed(2, &["-: Bad file descriptor"]);
-}
-
-#[test]
-fn a_huge_input_has_an_answer() {
-    let words = "a byte that is no command fit for its place";
-    run(Command::new("timeout")
-        .arg("60")
-        .arg(script())
-        .args(["trimmed", "/dev/zero"]))
-    .refused(2, words);
-    bash("cutlist trimmed - < <(yes)", &[]).refused(2, words);
-    let folder = Folder::new();
-    let plan = &folder.file("plan", BRIDGE);
-    bash("cutlist trimmed - < <(cat \"$1\" /dev/zero)", &[plan]).refused(3, "a byte after 45");
-    let text = hexadecimal(BRIDGE) + &"# nothing\n".repeat(100_000);
-    trimmed(&[&folder.file("long.hex", &text)]).listed(BRIDGE_LIST);
-    trimmed(&[&folder.file("longer.hex", text + "45")]).refused(3, "a byte after 45");
-}
-
-#[test]
-fn a_file_may_have_any_name() {
-    let folder = Folder::new();
-    for name in ["trimmed", "metres", "-x", "a b", "cuts 1\n0 | 0"] {
-        folder.file(name, BRIDGE);
-        let asked = |words: &[&str]| {
-            run(Command::new(script())
-                .args(words)
-                .arg(name)
-                .current_dir(&folder.0))
-        };
-        asked(&["trimmed", "--"]).listed(BRIDGE_LIST);
-        asked(&["--"]).listed(BRIDGE_LIST);
-        let twice = assert_same(&[&folder.0.join(name), &folder.0.join(name)]);
-        assert_eq!(twice.out.lines().count(), 12, "{twice:?}");
-    }
-    let odd = folder.0.join(OsStr::from_bytes(b"\xFF.hex"));
-    std::fs::write(&odd, hexadecimal(BRIDGE)).expect("a new file");
-    trimmed(&[&odd]).listed(BRIDGE_LIST);
-}
-
-#[test]
-fn a_file_that_is_called_trimmed_is_listed() {
-    let folder = Folder::new();
-    folder.file("trimmed", BRIDGE);
-    folder.file("plan", BRIDGE);
-    let asked = |words: &[&str]| run(Command::new(script()).args(words).current_dir(&folder.0));
-    asked(&["./trimmed"]).listed(BRIDGE_LIST);
-    asked(&["--", "trimmed"]).listed(BRIDGE_LIST);
-    asked(&["plan", "trimmed"]).listed(&format!("plan:\n{BRIDGE_LIST}trimmed:\n{BRIDGE_LIST}"));
-    asked(&["trimmed", "trimmed"]).listed(BRIDGE_LIST);
-    asked(&["trimmed"]).failed(2, &["trimmed needs a FILE"]);
-    // One word says what to do; the next is a file's name.
-    asked(&["trimmed", "metres"]).failed(2, &["metres: No such file"]);
-    asked(&["metres", "trimmed"]).listed("metres 0\nunmeasured 0 1 2 3 4\n");
-}
-
-#[test]
 fn a_list_that_is_lost_is_status_3() {
     let folder = Folder::new();
-    let plan = &folder.file("plan", BRIDGE);
     let spur = &folder.file("spur.hex", SPUR);
-    for plan in [plan, spur] {
-        bash("cutlist trimmed \"$1\" >/dev/full", &[plan]).failed(3, &[LOST, "No space left"]);
-        bash("cutlist trimmed \"$1\" >&-", &[plan]).failed(3, &[LOST, "Bad file descriptor"]);
-        bash("cutlist trimmed \"$1\" 1</dev/null", &[plan]).failed(3, &[LOST]);
-        let small = "ulimit -f 0; cutlist trimmed \"$1\" >\"$2\"";
-        bash(small, &[plan, &folder.0.join("out")]).failed(3, &[LOST, "File too large"]);
-        let (reader, writer) = io::pipe().expect("a pipe");
-        drop(reader);
-        let status = Command::new(script())
-            .arg("trimmed")
-            .arg(plan)
-            .stdout(writer)
-            .stderr(Stdio::null())
-            .status()
-            .expect("it ends");
-        assert_eq!(status.code(), Some(3));
-    }
+    bash("cutlist trimmed \"$1\" >/dev/full", &[spur]).failed(3, &[LOST, "No space left"]);
     // More lines than a pipe holds, and a reader that goes away before the end.
     let hubs = &folder.file("hubs", two_hubs(11));
     let ended = bash("cutlist trimmed \"$1\" | head -c 1", &[hubs]);
     assert_eq!((ended.status, ended.out.as_str()), (Some(3), "c"));
     assert!(ended.err.contains(LOST), "{ended:?}");
-    // With nothing to print nothing is lost.
-    bash("cutlist trimmed missing >&-", &[]).failed(2, &["missing: No such file"]);
-    bash("cutlist trimmed >/dev/full", &[]).failed(2, &["trimmed needs a FILE"]);
-}
-
-#[test]
-fn messages_that_are_lost_change_nothing() {
-    let folder = Folder::new();
-    let plan = &folder.file("plan", BRIDGE);
-    let spur = &folder.file("spur.hex", SPUR);
-    for gone in ["2>/dev/full", "2>&-"] {
-        let asked = |words: &str| bash(&format!("cutlist trimmed {words} {gone}"), &[plan, spur]);
-        for (words, status, out) in [
-            ("\"$1\"", 0, BRIDGE_LIST),
-            ("\"$2\"", 1, "refused 26\n"),
-            ("missing", 2, ""),
-        ] {
-            let ended = asked(words);
-            assert_eq!((ended.status, ended.out.as_str()), (Some(status), out));
-        }
-    }
 }

@@ -6,12 +6,11 @@ use mathlib.Core.List.{List}
 use mathlib.Core.Logic.{_⊎_, inl, inr, _↔_, _≢_}
 use Prim.Native.Nat.{ℕ, _-_, _^_, _<_}
 use native.Mathlib.Decide.{ℕ-discrete}
-use lib.Dec.{ltb, lt→ltb}
+use lib.Dec.{ltb}
 use lib.ListN.{getD}
 use Rattle.bitset.specs.Members.{has, _⊆_, _∖_, _∈_}
-use Rattle.bitset.proofs.Members.{has-ones}
 use Rattle.bitset.proofs.Subsets.{⊆-antisym}
-use Rattle.bitset.proofs.Sets.{in-single, in-drop}
+use Rattle.bitset.proofs.Sets.{in-single, in-drop, in-ones}
 use Rattle.bitset.proofs.Results.{below-ones}
 use Rattle.node_set.specs.Width.{nodeWidth}
 use Rattle.network.specs.declared.Network.{Network}
@@ -62,7 +61,7 @@ unfolding only
 reached-all N S h l adjacent table all start r is-all nodes reached =
     let B = bounded-only N (S .bounded) h l in
     let holds : (v : ℕ) → v < N .nodes → v ∈ all =
-    λ v k. rw (below-ones nodeWidth (N .nodes) all (S .small) is-all, has-ones (N .nodes) v) (lt→ltb v (N .nodes) k) in
+    λ v k. rw (below-ones nodeWidth (N .nodes) all (S .small) is-all) (in-ones (N .nodes) v .1 k) in
     let ends : (e v w : ℕ) → Joins (only N h) e v w → w ∈ all = λ e v w j. holds w (B .ends e v w j) in
     reached-same (only N h) B adjacent all start r reached (λ v m. holds v (nodes v m)) ends
     (λ v w m. (λ p. table v w .0 (p .0), λ j. (table v w .1 j, ends (j .1 .0) v w (j .1 .1))))
@@ -129,4 +128,4 @@ adjacency-without N B adjacent table c others rows v w =
     )
   where
     other : (x : ℕ) → x < N .nodes → (x ≡ c → ⊥) → x ∈ ((2 ^ N .nodes - 1) ∖ 2 ^ c)
-    other x h n = in-drop (2 ^ N .nodes - 1) c x .1 (rw (has-ones (N .nodes) x) (lt→ltb x (N .nodes) h), n)
+    other x h n = in-drop (2 ^ N .nodes - 1) c x .1 (in-ones (N .nodes) x .1 h, n)

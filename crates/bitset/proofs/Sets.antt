@@ -3,7 +3,7 @@
 use mathlib.Core.Path.{_≡_, refl, sym, ap, subst, _∙_}
 use mathlib.Core.Bool.{false, not}
 use mathlib.Core.Logic.{_⊎_, inl, inr, ⊎-map, _↔_, Dec·not-not}
-use Prim.Native.Nat.{ℕ, suc, _%_, _^_, _<_}
+use Prim.Native.Nat.{ℕ, suc, _-_, _%_, _^_, _<_}
 use native.Mathlib.Nat.{lt-of-not-le, eq-or-lt-of-le, mod-lt}
 use native.Mathlib.Decide.{ℕ-discrete}
 use denote.Floats.{passes}
@@ -13,7 +13,7 @@ use lib.Pow.{pow-pos}
 use lib.Dec.{eqb, ltb, ltb→lt, lt→ltb}
 use Rattle.bitset.specs.Members.{has, _∈_, _⊆_, insert, _∖_, size}
 use Rattle.sequences.proofs.Tests.{T-dec, T-or, T-and, T-not, T-eqb}
-use Rattle.bitset.proofs.Members.{same-members-below, lt-pow, has-bounded, has-zero, has-power, has-and, has-or, has-minus, has-insert, has-mod, insert-or}
+use Rattle.bitset.proofs.Members.{same-members-below, lt-pow, has-bounded, has-zero, has-power, has-and, has-or, has-minus, has-insert, has-mod, has-ones, insert-or}
 use Rattle.bitset.proofs.Subsets.{same-test, ⊆-antisym}
 use Rattle.bitset.proofs.Size.{size-insert, lowest-trailing, lowest-none}
 
@@ -149,6 +149,10 @@ pub set-lt : (w s : ℕ) → ((j : ℕ) → j ∈ s → j < w) → s < 2 ^ w
 set-lt w s within =
     subst (λ x. x < 2 ^ w) (same-set (λ j. (λ m. in-mod w s j .0 m .1, λ m. in-mod w s j .1 (within j m, m)))) (mod-lt s (pow-pos w))
 
+-- The set 2 ^ n - 1 has the numbers below n.
+pub in-ones : (n k : ℕ) → (k ∈ (2 ^ n - 1)) ↔ (k < n)
+in-ones n k = rw (has-ones n k) (ltb→lt k n, lt→ltb k n)
+
 -- A set that is not empty has a member.
 pub empty-or-member : (s : ℕ) → (s ≡ 0) ⊎ ((k : ℕ) × (k ∈ s))
 empty-or-member s = go (eq-or-lt-of-le (lowest-trailing s s .within))
@@ -158,6 +162,15 @@ empty-or-member s = go (eq-or-lt-of-le (lowest-trailing s s .within))
         let none = lowest-none s s (trailingZeros s s) (lowest-trailing s s) .0 e in
         inl (same-members-below s (lt-pow s) (pow-pos s) (λ k h. none k h ∙ sym (has-zero k)))
     go (inr h) = inr (trailingZeros s s, passes (has s (trailingZeros s s)) (lowest-trailing s s .member h))
+
+-- Of a set that is part of another all is there, or a member is missing.
+pub whole-or-missing : (s t : ℕ) → s ⊆ t → (s ≡ t) ⊎ ((k : ℕ) × (k ∈ t) × (k ∈ s → ⊥))
+whole-or-missing s t part = go (empty-or-member (t ∖ s))
+  where
+    go : (t ∖ s ≡ 0) ⊎ ((k : ℕ) × (k ∈ (t ∖ s))) → (s ≡ t) ⊎ ((k : ℕ) × (k ∈ t) × (k ∈ s → ⊥))
+    go (inl none) =
+        inl (⊆-antisym s t part (λ k m. Dec·not-not (∈-dec k s) .0 (λ n. not-zero k (rw none at (in-minus t s k .1 (m, n))))))
+    go (inr (k, m)) = let p = in-minus t s k .0 m in inr (k, p .0, p .1)
 
 -- To take off a member is to have one fewer.
 pub size-drop : (w s v : ℕ) → v < w → v ∈ s → size w s ≡ suc (size w (s ∖ 2 ^ v))

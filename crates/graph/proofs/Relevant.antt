@@ -8,11 +8,9 @@ use native.Mathlib.Nat.{not-suc-le-zero, le-of-suc-le-suc, eq-or-lt-of-le}
 use native.Mathlib.Decide.{ℕ-discrete, decLt}
 use native.Mathlib.Omega.{arith}
 use lib.Bits.{bitAnd, and-comm}
-use lib.Dec.{ltb→lt, lt→ltb}
 use Rattle.bitset.specs.Members.{insert, _∖_, _∈_, _⊆_}
-use Rattle.bitset.proofs.Members.{has-ones}
 use Rattle.bitset.proofs.Subsets.{⊆-refl, subset-and}
-use Rattle.bitset.proofs.Sets.{in-insert, in-and, in-single, in-drop}
+use Rattle.bitset.proofs.Sets.{in-insert, in-and, in-single, in-drop, in-ones}
 use Rattle.network.specs.declared.Network.{Network}
 use Rattle.network.specs.Record.{firstEnd, secondEnd}
 use Rattle.graph.specs.Paths.{Hop, Leads, nodesFrom}
@@ -43,8 +41,8 @@ module _ (N : Network) (S : Sound N) where
   in-others : (c x : ℕ) → (x ∈ ((2 ^ N .nodes - 1) ∖ 2 ^ c)) ↔ ((x < N .nodes) × (x ≡ c → ⊥))
   in-others c x =
       let drop = in-drop (2 ^ N .nodes - 1) c x in (
-        λ m. let d = drop .0 m in (ltb→lt x (N .nodes) (rw (has-ones (N .nodes) x) at (d .0)), d .1),
-        λ k. drop .1 (rw (has-ones (N .nodes) x) (lt→ltb x (N .nodes) (k .0)), k .1),
+        λ m. let d = drop .0 m in (in-ones (N .nodes) x .0 (d .0), d .1),
+        λ k. drop .1 (in-ones (N .nodes) x .1 (k .0), k .1),
       )
 
   -- Source and sink, whichever is not c.
@@ -107,8 +105,7 @@ module _ (N : Network) (S : Sound N) where
   in-pastAll : (n v : ℕ) → (v ∈ pastAll N n) ↔ ((v < N .nodes) × ((c : ℕ) → c < n → (v ≡ c) ⊎ Escapes N c v))
   unfolding pastAll
   in-pastAll zero v =
-      rw (has-ones (N .nodes) v)
-      (λ t. (ltb→lt v (N .nodes) t, λ c h. absurd (not-suc-le-zero h)), λ k. lt→ltb v (N .nodes) (k .0))
+      (λ m. (in-ones (N .nodes) v .0 m, λ c h. absurd (not-suc-le-zero h)), λ k. in-ones (N .nodes) v .1 (k .0))
   in-pastAll (suc n) v = (
     λ m.
         let both = in-and (pastAll N n) (past N n) v .0 m in

@@ -2,14 +2,13 @@
 -- Assumes a sound network.
 use mathlib.Core.Path.{_≡_, refl}
 use mathlib.Core.Bool.{false, not}
-use mathlib.Core.Logic.{_⊎_, inl, inr, _↔_, Dec·not-not}
+use mathlib.Core.Logic.{_⊎_, inl, inr, _↔_}
 use Prim.Native.Nat.{ℕ, _-_, _^_, _<_}
-use lib.Dec.{T, eqb, ltb→lt, lt→ltb}
+use lib.Dec.{T, eqb}
 use Rattle.sequences.proofs.Tests.{T-and, T-not, T-eqb}
-use Rattle.bitset.specs.Members.{_∈_, _⊆_, _∖_}
-use Rattle.bitset.proofs.Members.{has-ones}
+use Rattle.bitset.specs.Members.{_∈_, _⊆_}
 use Rattle.bitset.proofs.Subsets.{⊆-antisym, same-test, and-absorb}
-use Rattle.bitset.proofs.Sets.{∈-dec, in-minus, not-zero, empty-or-member}
+use Rattle.bitset.proofs.Sets.{in-ones, whole-or-missing}
 use Rattle.network.specs.declared.Network.{Network}
 use Rattle.network.specs.Record.{firstEnd, secondEnd, present}
 use Rattle.network.specs.Ends.{Loopless}
@@ -23,15 +22,6 @@ use Rattle.graph.proofs.Sound.{Sound}
 use Rattle.graph.proofs.RelevantEdges.{relevant-present, relevant-edge-iff}
 use Rattle.graph.proofs.Relevant.{relevant-lt, in-relevantNodes, in-relevantEdges}
 
--- Of a set that is part of another all is there, or a member is missing.
-whole-or-missing : (s t : ℕ) → s ⊆ t → (s ≡ t) ⊎ ((k : ℕ) × (k ∈ t) × (k ∈ s → ⊥))
-whole-or-missing s t part = go (empty-or-member (t ∖ s))
-  where
-    go : (t ∖ s ≡ 0) ⊎ ((k : ℕ) × (k ∈ (t ∖ s))) → (s ≡ t) ⊎ ((k : ℕ) × (k ∈ t) × (k ∈ s → ⊥))
-    go (inl none) =
-        inl (⊆-antisym s t part (λ k m. Dec·not-not (∈-dec k s) .0 (λ n. not-zero k (rw none at (in-minus t s k .1 (m, n))))))
-    go (inr (k, m)) = let p = in-minus t s k .0 m in inr (k, p .0, p .1)
-
 -- The test says that both sets are whole.
 pub trimmed-whole : (N : Network) → T (trimmed N) ↔ ((relevantNodes N ≡ 2 ^ N .nodes - 1) × (relevantEdges N ≡ present N))
 unfolding trimmed
@@ -42,18 +32,14 @@ trimmed-whole N =
     (λ t. let p = both .0 t in (nodes .0 (p .0), edges .0 (p .1)), λ p. both .1 (nodes .1 (p .0), edges .1 (p .1)))
 
 module _ (N : Network) (S : Sound N) where
-  -- The nodes of N are the numbers below the node count.
-  pub in-all : (v : ℕ) → (v ∈ (2 ^ N .nodes - 1)) ↔ (v < N .nodes)
-  in-all v = rw (has-ones (N .nodes) v) (ltb→lt v (N .nodes), lt→ltb v (N .nodes))
-
   nodes-part : relevantNodes N ⊆ (2 ^ N .nodes - 1)
-  nodes-part v m = in-all v .1 (relevant-lt N S v (in-relevantNodes N S v .0 m))
+  nodes-part v m = in-ones (N .nodes) v .1 (relevant-lt N S v (in-relevantNodes N S v .0 m))
 
   -- All nodes are computed as relevant exactly if they are.
   pub nodes-whole : (relevantNodes N ≡ 2 ^ N .nodes - 1) ↔ ((v : ℕ) → v < N .nodes → RelevantNode N v)
   nodes-whole = (
-    λ e v h. in-relevantNodes N S v .0 (rw e (in-all v .1 h)),
-    λ k. ⊆-antisym _ _ nodes-part (λ v m. in-relevantNodes N S v .1 (k v (in-all v .0 m))),
+    λ e v h. in-relevantNodes N S v .0 (rw e (in-ones (N .nodes) v .1 h)),
+    λ k. ⊆-antisym _ _ nodes-part (λ v m. in-relevantNodes N S v .1 (k v (in-ones (N .nodes) v .0 m))),
   )
 
   edges-part : relevantEdges N ⊆ present N
@@ -84,7 +70,7 @@ module _ (N : Network) (S : Sound N) where
       go : (T (trimmed N) → ⊥)
           → (relevantNodes N ≡ 2 ^ N .nodes - 1) ⊎ ((v : ℕ) × (v ∈ (2 ^ N .nodes - 1)) × (v ∈ relevantNodes N → ⊥))
           → (relevantEdges N ≡ present N) ⊎ ((e : ℕ) × (e ∈ present N) × (e ∈ relevantEdges N → ⊥)) → Untrimmed N
-      go lacks (inr p) d = inl (p .0, in-all (p .0) .0 (p .1), λ r. p .2 (in-relevantNodes N S (p .0) .1 r))
+      go lacks (inr p) d = inl (p .0, in-ones (N .nodes) (p .0) .0 (p .1), λ r. p .2 (in-relevantNodes N S (p .0) .1 r))
       go lacks (inl e) (inr p) = inr (p .0, p .1, λ r. p .2 (in-relevantEdges N S (p .0) .1 r))
       go lacks (inl e) (inl q) = absurd (lacks (trimmed-whole N .1 (e, q)))
 

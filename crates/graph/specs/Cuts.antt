@@ -8,7 +8,7 @@
 --   RelevantEdge N e     e lies on some minpath (the paper's useful cable)
 --   OnMinpath N v        v is a node of some minpath's path
 --   RelevantNode N v     v is the source, the sink, or a node of some minpath's path (the paper's useful point)
---   Trimmed N            every node and every present edge is relevant
+--   Trimmed N            every node and every present edge is relevant (02's plan that was trimmed already)
 --   Untrimmed N          some node or some present edge is not
 --   OnSourceSide N c v   v is relevant, and source reaches it over relevant edges outside c (the paper's near side)
 use mathlib.Core.List.{List, List·Memᴰ}

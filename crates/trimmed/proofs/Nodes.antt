@@ -10,7 +10,7 @@ use lib.ListN.{getD}
 use Rattle.sequences.proofs.Tests.{T-eqb}
 use Rattle.bitset.specs.Members.{has, _∈_, _∖_}
 use Rattle.bitset.proofs.Subsets.{⊆-antisym, same-test}
-use Rattle.bitset.proofs.Sets.{∈-dec, in-insert, in-minus, in-or-minus, in-single}
+use Rattle.bitset.proofs.Sets.{∈-dec, in-insert, in-minus, in-or-minus, in-single, in-ones}
 use Rattle.network.specs.declared.Network.{Network}
 use Rattle.graph.specs.Paths.{Joins, edgesOf}
 use Rattle.graph.specs.Cuts.{RelevantNode}
@@ -20,7 +20,7 @@ use Rattle.graph.proofs.Nodes.{carried}
 use Rattle.graph.proofs.Sound.{Sound}
 use Rattle.graph.proofs.RelevantNodes.{Escapes, stays, escapes-over, relevant-node-iff}
 use Rattle.graph.proofs.Relevant.{in-past, relevant-lt}
-use Rattle.graph.proofs.Trimmed.{in-all, nodes-whole}
+use Rattle.graph.proofs.Trimmed.{nodes-whole}
 use Rattle.adjacency.specs.Adjacency.{Adjacency}
 use Rattle.adjacency.proofs.Reaching.{adjacency-mutual}
 use Rattle.trimmed.specs.Visits.{ClosedBut, Found, Visited, VisitEnds}
@@ -104,7 +104,7 @@ module _ (N : Network) (S : Sound N) (adjacent : List ℕ) (table : Adjacency N 
       let sink : N .sink ∈ after = in-minus after (2 ^ N .source) (N .sink) .0 (s .found .visits) .0 in
       Dec·not-not (∈-dec k after) .0 (λ n.
       hanging-irrelevant (N .source) (all ∖ after) (there (N .source) first) (there (N .sink) sink) (there (N .source) first)
-      (λ u w m i. go u w m i (∈-dec w after)) k (in-minus all after k .1 (in-all N S k .1 h, n)) (relevant k h))
+      (λ u w m i. go u w m i (∈-dec w after)) k (in-minus all after k .1 (in-ones (N .nodes) k .1 h, n)) (relevant k h))
     where
       go : (u w : ℕ) → u ∈ (all ∖ after) → w ∈ getD adjacent u 0 → Dec (w ∈ after)
           → (w ∈ (all ∖ after)) ⊎ (w ≡ N .source)
@@ -113,7 +113,7 @@ module _ (N : Network) (S : Sound N) (adjacent : List ℕ) (table : Adjacency N 
             | inl e ↦ inr (in-single (N .source) w .0 e)
             | inr o ↦ absurd (in-minus all after u .0 m .1 (s .closed w u o (adjacency-mutual N adjacent table u w i)))
           ]
-      go u w m i (no n) = inl (in-minus all after w .1 (in-all N S w .1 (row-lt u w i), n))
+      go u w m i (no n) = inl (in-minus all after w .1 (in-ones (N .nodes) w .1 (row-lt u w i), n))
 
   -- Where the visit ends, all nodes are visited exactly if all are relevant.
   pub ends-tell : (after back : ℕ) → VisitEnds adjacent (2 ^ N .source) (N .sink) after back
@@ -121,13 +121,13 @@ module _ (N : Network) (S : Sound N) (adjacent : List ℕ) (table : Adjacency N 
   ends-tell after back (inl s) =
       let node : (v : ℕ) → v ∈ after → RelevantNode N v = found-relevant after (s .found) in
       same-test (eqb after all) (eqb (relevantNodes N) all)
-      (λ t. T-eqb _ _ .1 (nodes-whole N S .1 (λ v h. node v (rw (T-eqb after all .0 t) (in-all N S v .1 h)))))
-      (λ t. T-eqb _ _ .1 (⊆-antisym after all (λ v m. in-all N S v .1 (relevant-lt N S v (node v m)))
-      (λ v m. visited-whole after back s (nodes-whole N S .0 (T-eqb _ _ .0 t)) v (in-all N S v .0 m))))
+      (λ t. T-eqb _ _ .1 (nodes-whole N S .1 (λ v h. node v (rw (T-eqb after all .0 t) (in-ones (N .nodes) v .1 h)))))
+      (λ t. T-eqb _ _ .1 (⊆-antisym after all (λ v m. in-ones (N .nodes) v .1 (relevant-lt N S v (node v m)))
+      (λ v m. visited-whole after back s (nodes-whole N S .0 (T-eqb _ _ .0 t)) v (in-ones (N .nodes) v .0 m))))
   ends-tell after back (inr (same, none, h)) =
       let (k, (m, i)) = h .some in
       same-test (eqb after all) (eqb (relevantNodes N) all)
-      (λ t. absurd (S .differ (sym (in-single (N .source) (N .sink) .0 (rw (← same, T-eqb after all .0 t) (in-all N S (N .sink) .1 (S .sink-lt)))))))
+      (λ t. absurd (S .differ (sym (in-single (N .source) (N .sink) .0 (rw (← same, T-eqb after all .0 t) (in-ones (N .nodes) (N .sink) .1 (S .sink-lt)))))))
       (λ t. absurd (hanging-irrelevant (h .holder) (h .part)
       (λ j. h .apart (N .source) j (in-insert (2 ^ N .source) (N .sink) (N .source) .1 (inl (in-single (N .source) (N .source) .1 refl))))
       (λ j. h .apart (N .sink) j (in-insert (2 ^ N .source) (N .sink) (N .sink) .1 (inr refl)))
