@@ -1,28 +1,12 @@
 // Judging a set of edges: one spread tells whether it is a cut, and one more for each member whether it is minimal.
 use crate::Verdict;
-use adjacency::adjacency;
+use crate::silence::severed;
 use edge_set::EdgeSet;
 use network::Network;
-use node_set::NodeSet;
-use spread::reach;
 ghost use mathlib.Core.Path.{_≡_};
 ghost use Rattle.network.specs.Record.{faultOf};
-ghost use Rattle.graph.specs.CutTests.{severed, allNeeded};
+ghost use Rattle.graph.specs.CutTests.{allNeeded};
 ghost use Rattle.connectivity.specs.Answers.{verdictOf, VerdictMeans, numbersOf};
-
-// Whether without the edges of the set the source does not reach the sink.
-fn severed(network: Network, set: EdgeSet) -> bool
-    requires { ⌜ faultOf network ≡ 0 ⌝ }
-    ensures { λ r. ⌜ r ≡ severed network (set .0) ⌝ }
-{
-    let present = network.present;
-    let edges = present.difference(set);
-    let adjacent = adjacency(network, edges);
-    let all = NodeSet::below(network.nodes as u32);
-    let start = NodeSet::single(network.source as u32);
-    let reached = reach(&adjacent, all, start);
-    !reached.contains(network.sink as u32)
-}
 
 // Whether no member of the set can be dropped: without the others alone the source reaches the sink.
 fn all_needed(network: Network, set: EdgeSet) -> bool

@@ -9,9 +9,9 @@ use native.Mathlib.Decide.{ℕ-discrete, decLt}
 use native.Mathlib.Omega.{arith}
 use borrow.Author.Tests.{lt-ltb, le-ltb}
 use lib.Bits.{bitAnd}
-use lib.ListN.{length, drop, length-append, length-drop, length-map}
-use lib.Seq.{drop-at}
+use lib.ListN.{length, length-map}
 use Rattle.sequences.specs.Words.{onto}
+use Rattle.sequences.proofs.Words.{drop-onto, length-onto}
 use Rattle.bitset.specs.Members.{_⊆_}
 use Rattle.bitset.proofs.Subsets.{subset-and}
 use Rattle.network.specs.declared.Network.{Network}
@@ -134,8 +134,8 @@ total N c = go (ℕ-discrete (faultOf N) 0) (ℕ-discrete (bitAnd c (present N))
 -- A list written onto enough rows leaves the later ones.
 kept-onto : (l lent : List ℕ) (n : ℕ) → length l ≡ n → n ≤ length lent → Kept n lent (onto l lent)
 kept-onto l lent n count fits = record {
-  size = omega (arith, length-append l (drop (length l) lent), length-drop (length l) lent);
-  later = drop-at l (drop (length l) lent) n count ∙ ap (λ (m : ℕ). drop m lent) count;
+  size = length-onto l lent (rw count fits);
+  later = drop-onto l lent n count;
 }
 
 module _ (N : Network) (stored : Stored N) (cuts sides : List ℕ) where

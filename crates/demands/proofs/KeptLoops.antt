@@ -16,8 +16,8 @@ use Rattle.bitset.proofs.Sets.{member-lt}
 use Rattle.network.specs.declared.Network.{Network}
 use Rattle.network.specs.Record.{_when_, _then_, unlessRefused, sizeFault, terminalFault, endFault, slots, Slot, slot, hasEdge, firstEnd, secondEnd, bare, withEdge, present, Stored}
 use Rattle.network.specs.Ends.{Loop, Loopless}
-use Rattle.network.proofs.Refusals.{then-none, some-then, then-kept, when-none, none-when, some-when, refused-some}
-use Rattle.network.proofs.Slots.{row-none, withEdge-stored, withEdge-slots}
+use Rattle.network.proofs.Refusals.{then-none, some-then, then-kept, when-none, none-when, some-when, refused-some, row-none}
+use Rattle.network.proofs.Slots.{withEdge-stored, withEdge-slots}
 use Rattle.format.specs.declared.Decoded.{Decoded}
 use Rattle.format.specs.declared.Step.{Step}
 use Rattle.format.specs.Format.{edgeStep, accept, refuse, ifTaken, edges}

@@ -1,14 +1,13 @@
--- A list written onto the first of the lent rows, stored or copied row by row.
+-- A list written onto the first of the lent rows.
 -- Assumes that there are enough rows.
 use mathlib.Core.Path.{_≡_, sym, ap, _∙_}
 use mathlib.Core.List.{List, _++_, append-assoc}
-use Prim.Native.Nat.{ℕ, suc, _+_, _-_, _≤_, _<_}
+use Prim.Native.Nat.{ℕ, _+_, _-_, _≤_}
 use native.Mathlib.Nat.{zero-add, sub-zero}
-use native.Mathlib.Numerals.{add-one}
 use native.Mathlib.Omega.{arith}
 use borrow.Rule.Slice.PartMut.{putMid}
-use lib.ListN.{length, take, drop, set, getD}
-use lib.Seq.{sets, sets-eq, take-at, set-at, take-suc, drop-cons, append-snoc, length-take-le}
+use lib.ListN.{length, take, drop}
+use lib.Seq.{sets, sets-eq, take-at, length-take-le}
 use Rattle.sequences.specs.Words.{onto}
 
 -- To store a list from the first row on is to write it onto the rows.
@@ -22,14 +21,3 @@ first-kept l lent n m count h k {now} e =
     let room : length (take (m - 0) lent) ≡ m = rw (sub-zero m) (length-take-le m lent k) in
     let fits : length l ≤ length (take (m - 0) lent) = omega arith in
     rw (e ∙ sets-onto l (take (m - 0) lent) fits, sub-zero n, append-assoc) (take-at l _ n (sym count))
-
--- ---- rows that are copied one by one
-
--- After the first i the next is copied.
-pub onto-next : (l lent : List ℕ) (i : ℕ) {now : List ℕ} → now ≡ onto (take i l) lent → i < length l → i < length lent
-    → set now i (getD l i 0) ≡ onto (take (i + 1) l) lent
-onto-next l lent i e h k =
-    let full : length (take i l) ≡ i = length-take-le i l (omega arith) in
-    let more : length (take (suc i) l) ≡ suc i = length-take-le (suc i) l h in
-    rw (e, add-one, more, full, drop-cons lent i 0 k, set-at (take i l) (getD lent i 0) (drop (suc i) lent) (getD l i 0) i full, take-suc l i 0 h)
-    (sym (append-snoc (take i l) (getD l i 0) (drop (suc i) lent)))

@@ -1,24 +1,26 @@
--- Cuts: the mincuts are the least sets of edges that meet every minpath, the two families fix each other, and the tests are right.
+-- Cuts: the mincuts are the least sets of edges that meet every minpath, the two families fix each other, a set of edges silences exactly if
+-- it holds a mincut, and the tests are right.
 -- Assumes, where something is decided, that the edges have numbers below 64 and ends below the node count.
-use mathlib.Core.Path.{_≡_}
-use mathlib.Core.Bool.{Bool, not}
+use mathlib.Core.Path.{_≡_, sym}
+use mathlib.Core.Bool.{Bool, true, false, not}
 use mathlib.Core.Logic.{_↔_, Dec·of-iff, Iff·symm, Iff·trans, Iff·and, Iff·not, Iff·rfl}
 use Prim.Native.Nat.{ℕ, _^_}
+use denote.Floats.{is-true, passes}
 use lib.Bits.{bitAnd}
 use lib.Dec.{T, eqb}
 use Rattle.sequences.specs.Words.{every}
 use Rattle.sequences.proofs.Words.{T-every}
 use Rattle.bitset.specs.Members.{has, _⊆_, _∖_, members, _∈_}
-use Rattle.bitset.proofs.Subsets.{⊆-trans, subset-and}
+use Rattle.bitset.proofs.Subsets.{⊆-trans, same-test, subset-and}
 use Rattle.sequences.proofs.Tests.{T-not, T-then, T-eqb}
 use Rattle.bitset.proofs.Sets.{∈-dec, in-and, minus-⊆, member-lt}
 use Rattle.bitset.proofs.MemberList.{in-members}
 use Rattle.network.specs.Record.{present}
 use Rattle.network.specs.declared.Network.{Network}
 use Rattle.graph.specs.Paths.{Minpath, Connected, SameMinpaths}
-use Rattle.graph.specs.Cuts.{only, without, Cut, Mincut}
+use Rattle.graph.specs.Cuts.{only, without, Silenced, Cut, Mincut, HoldsMincut}
 use Rattle.graph.specs.Reach.{reachOf, Bounded}
-use Rattle.graph.specs.CutTests.{severed, cutTest, allNeeded, mincutTest}
+use Rattle.graph.specs.CutTests.{severed, cutTest, allNeeded, mincutTest, Settled}
 use Rattle.graph.proofs.Minpaths.{minpath-present, walk-minpath, minpath-only, connected-minpath, minpath-least}
 use Rattle.graph.proofs.Reach.{bounded-only, in-reach-single}
 use Rattle.bitset.specs.Families.{Holds, Transversal, Blocker}
@@ -27,22 +29,36 @@ use Rattle.bitset.proofs.Families.{Decided, least-drop, transversal-up, transve
 -- ---- cuts are transversals
 
 module _ (N : Network) where
+  -- Without the edges of d no minpath is left exactly if the source is not connected to the sink there.
+  silenced-connected : (d : ℕ) → Silenced N d ↔ (Connected (without N d) (N .source) (N .sink) → ⊥)
+  unfolding only
+  silenced-connected d = (
+    λ s w. let m = walk-minpath (without N d) (w .0) (w .1) in s (m .0) (m .1 .0),
+    λ n r m. n (m .steps, m .leads),
+  )
+
+  -- Without the edges of d no minpath is left exactly if d meets every minpath.
+  silenced-transversal : (d : ℕ) → Silenced N d ↔ Transversal (Minpath N) d
+  silenced-transversal d =
+      let rest = transversal-rest (Minpath N) (present N) (minpath-present N) d in
+      let only-rest = minpath-only N (present N ∖ d) (minus-⊆ (present N) d) in
+      (λ s. rest .1 (λ h. s (h .0) (only-rest (h .0) .1 (h .1))), λ v r m. rest .0 v (r, only-rest r .0 m))
+
+  -- What silences does so as it grows.
+  pub silenced-mono : (c d : ℕ) → c ⊆ d → Silenced N c → Silenced N d
+  silenced-mono c d h s = silenced-transversal d .1 (transversal-up (Minpath N) c d h (silenced-transversal c .0 s))
+
+  -- A cut is a set of present edges that silences.
+  cut-silenced : (c : ℕ) → Cut N c ↔ ((c ⊆ present N) × Silenced N c)
+  cut-silenced c = (λ k. (k .present, k .severs), λ k. record { present = k .0; severs = k .1 })
+
   -- A set of present edges is a cut exactly if without it the source is not connected to the sink.
   pub cut-connected : (c : ℕ) → Cut N c ↔ ((c ⊆ present N) × (Connected (without N c) (N .source) (N .sink) → ⊥))
-  unfolding only
-  cut-connected c = (
-    λ k. (k .present, λ w. let m = walk-minpath (without N c) (w .0) (w .1) in k .severs (m .0) (m .1 .0)),
-    λ k. record { present = k .0; severs = λ r m. k .1 (m .steps, m .leads) },
-  )
+  cut-connected c = Iff·trans (cut-silenced c) (Iff·and Iff·rfl (silenced-connected c))
 
   -- A set of present edges is a cut exactly if it meets every minpath.
   pub cut-transversal : (c : ℕ) → Cut N c ↔ ((c ⊆ present N) × Transversal (Minpath N) c)
-  cut-transversal c =
-      let rest = transversal-rest (Minpath N) (present N) (minpath-present N) c in
-      let only-rest = minpath-only N (present N ∖ c) (minus-⊆ (present N) c) in (
-        λ k. (k .present, rest .1 (λ h. k .severs (h .0) (only-rest (h .0) .1 (h .1)))),
-        λ k. record { present = k .0; severs = λ r m. rest .0 (k .1) (r, only-rest r .0 m) },
-      )
+  cut-transversal c = Iff·trans (cut-silenced c) (Iff·and Iff·rfl (silenced-transversal c))
 
   -- The mincuts are the blocker of the minpaths.
   pub mincut-blocker : (c : ℕ) → Mincut N c ↔ Blocker (Minpath N) c
@@ -94,6 +110,15 @@ module _ (N : Network) where
         let r = transversal-shrink minpaths-decided c (cut-transversal c .0 k .1) in
         (r .0, (r .1 .0, mincut-blocker (r .0) .1 (r .1 .1)))
 
+    -- A set of edges holds a mincut exactly if it silences.
+    pub holds-silenced : (d : ℕ) → HoldsMincut N d ↔ Silenced N d
+    holds-silenced d = (
+      λ h. silenced-mono (h .0) d (h .1 .1) (h .1 .0 .cut .severs),
+      λ s.
+          let r = transversal-shrink minpaths-decided d (silenced-transversal d .0 s) in
+          (r .0, (mincut-blocker (r .0) .1 (r .1 .1), r .1 .0)),
+    )
+
     -- A set meets every mincut exactly if it holds a minpath.
     pub meets-mincuts : (h : ℕ) → Transversal (Mincut N) h ↔ Holds (Minpath N) h
     meets-mincuts h = Iff·trans (transversal-same (Mincut N) (Blocker (Minpath N)) mincut-blocker h) (meets-blocker minpaths-decided h)
@@ -120,19 +145,29 @@ same-minpaths N M B C =
 -- ---- the tests
 
 module _ (N : Network) (B : Bounded N) where
-  -- A set of present edges is a cut exactly if without it the source does not reach the sink.
-  pub cut-reach : (c : ℕ)
-      → Cut N c ↔ ((c ⊆ present N) × (N .sink ∈ reachOf (without N c) (2 ^ N .source) → ⊥))
-  cut-reach c =
-      let B′ = bounded-only N B (present N ∖ c) (minus-⊆ (present N) c) in
-      Iff·trans (cut-connected N c) (Iff·and Iff·rfl (Iff·not (Iff·symm (in-reach-single (without N c) B′ (N .source) (N .sink)))))
-
-  -- Of a set of present edges, the test of what it severs tells whether it is a cut.
-  pub severed-iff : (c : ℕ) → c ⊆ present N → T (severed N c) ↔ Cut N c
+  -- The test of what a set of edges severs tells whether it silences.
+  pub severed-silenced : (d : ℕ) → T (severed N d) ↔ Silenced N d
   unfolding severed
-  severed-iff c l =
-      let reached = T-not (has (reachOf (without N c) (2 ^ N .source)) (N .sink)) in
-      (λ t. cut-reach c .1 (l, reached .0 t), λ k. reached .1 (cut-reach c .0 k .1))
+  severed-silenced d =
+      let B′ = bounded-only N B (present N ∖ d) (minus-⊆ (present N) d) in
+      Iff·trans (T-not (has (reachOf (without N d) (2 ^ N .source)) (N .sink)))
+      (Iff·trans (Iff·not (in-reach-single (without N d) B′ (N .source) (N .sink))) (Iff·symm (silenced-connected N d)))
+
+  -- What severs does so as it grows.
+  severed-mono : (c d : ℕ) → c ⊆ d → T (severed N c) → T (severed N d)
+  severed-mono c d h t = severed-silenced d .1 (silenced-mono N c d h (severed-silenced c .0 t))
+
+  -- So what severs and has grown severs, and what does not and has shrunk does not.
+  pub severed-settled : (b : Bool) (c d : ℕ) → Settled b c d → b ≡ severed N c → b ≡ severed N d
+  severed-settled true c d h e = sym (is-true (severed N d) (severed-mono c d h (passes (severed N c) (sym e))))
+  severed-settled false c d h e = sym (same-test (severed N d) false (λ t. rw (← e) at (severed-mono d c h t)) absurd)
+
+  -- Of a set of present edges, it tells whether it is a cut.
+  pub severed-iff : (c : ℕ) → c ⊆ present N → T (severed N c) ↔ Cut N c
+  severed-iff c l = (
+    λ t. record { present = l; severs = severed-silenced c .0 t },
+    λ k. severed-silenced c .1 (k .severs),
+  )
 
   -- The test of a cut is right.
   pub cutTest-iff : (c : ℕ) → T (cutTest N c) ↔ Cut N c

@@ -3,8 +3,10 @@
 --
 --   only N h             N with the edges of h alone present
 --   without N c          N without the edges of c
+--   Silenced N d         without the edges of d no minpath is left (02's "no route among the cables still up", where d are down)
 --   Cut N c              c is a set of present edges without which no minpath is left
 --   Mincut N c           a cut, and no proper subset of it is one (the paper's minimal cut)
+--   HoldsMincut N d      some mincut lies inside d (02's "some minimal cut is wholly down")
 --   RelevantEdge N e     e lies on some minpath (the paper's useful cable)
 --   OnMinpath N v        v is a node of some minpath's path
 --   RelevantNode N v     v is the source, the sink, or a node of some minpath's path (the paper's useful point)
@@ -16,6 +18,7 @@ use mathlib.Core.Logic.{_⊎_}
 use mathlib.Core.Path.{_≡_}
 use Prim.Native.Nat.{ℕ, _<_}
 use Rattle.bitset.specs.Members.{_⊆_, _∖_, _∈_}
+use Rattle.bitset.specs.Families.{Holds}
 use Rattle.network.specs.Record.{present, rewired}
 use Rattle.network.specs.declared.Network.{Network}
 use Rattle.graph.specs.Paths.{Hop, Leads, nodesFrom, edgesOf, Minpath}
@@ -26,13 +29,20 @@ only N h = rewired N h (N .first) (N .second) (N .metres)
 abbrev pub without : Network → ℕ → Network
 without N c = only N (present N ∖ c)
 
+-- Of any set of edges, present or not.
+abbrev pub Silenced : Network → ℕ → Type 0
+Silenced N d = (r : ℕ) → Minpath (without N d) r → ⊥
+
 pub record Cut (N : Network) (c : ℕ) : Type 0 where
   pub present : c ⊆ present N
-  pub severs : (r : ℕ) → Minpath (without N c) r → ⊥
+  pub severs : Silenced N c
 
 pub record Mincut (N : Network) (c : ℕ) : Type 0 where
   pub cut : Cut N c
   pub least : (d : ℕ) → d ⊆ c → Cut N d → d ≡ c
+
+abbrev pub HoldsMincut : Network → ℕ → Type 0
+HoldsMincut N = Holds (Mincut N)
 
 abbrev pub RelevantEdge : Network → ℕ → Type 0
 RelevantEdge N e = (r : ℕ) × (Minpath N r × (e ∈ r))

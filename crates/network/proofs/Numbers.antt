@@ -1,14 +1,13 @@
 -- The record test gives no other number than those of its rules.
 -- Assumes nothing.
 use mathlib.Core.Bool.{Bool, true, false, cond, _||_}
-use mathlib.Core.List.{foldr, map}
 use mathlib.Core.Path.{_≡_}
 use Prim.Native.Nat.{ℕ, zero, suc}
 use lib.Dec.{T, ltb}
 use Rattle.sequences.specs.Words.{range}
 use Rattle.node_set.specs.Width.{nodeWidth}
 use Rattle.network.specs.declared.Network.{Network}
-use Rattle.network.specs.Record.{_then_, among, sizeFault, terminalFault, endFault, absentFault, hasEdge, firstEnd, secondEnd, metresOf, slotFault, slotsFault, recordRefusals, faultUpTo, faultOf}
+use Rattle.network.specs.Record.{_then_, firstFault, among, sizeFault, terminalFault, endFault, absentFault, hasEdge, firstEnd, secondEnd, metresOf, slotFault, slotsFault, recordRefusals, faultUpTo, faultOf}
 use Rattle.network.proofs.Refusals.{then-among, when-among, outside-among, terminals-among}
 
 abbrev Kept : ℕ → Type 0
@@ -28,7 +27,7 @@ slots-among : (N : Network) (n k : ℕ) → Kept (slotsFault N k n)
 unfolding among slotsFault range
 slots-among N zero k = tt
 slots-among N (suc n) k =
-    then-among recordRefusals (slotFault N k) (foldr _then_ 0 (map (slotFault N) (range (suc k) n))) (slot-among N k) (slots-among N n (suc k))
+    then-among recordRefusals (slotFault N k) (firstFault (slotFault N) (suc k) n) (slot-among N k) (slots-among N n (suc k))
 
 -- The fault of a record.
 pub fault-among : (N : Network) → Kept (faultOf N)

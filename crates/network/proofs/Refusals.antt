@@ -1,16 +1,17 @@
--- The laws of `_when_` and `_then_`, by which the rules are put together, and of `unlessRefused`.
+-- The laws of `_when_`, `_then_` and `firstFault`, by which the rules are put together, and of `unlessRefused`.
 -- Assumes nothing.
 use mathlib.Core.Bool.{Bool, true, false, _||_, true≢false}
-use mathlib.Core.Path.{_≡_, refl, ap}
+use mathlib.Core.Path.{_≡_, refl, ap, _∙_}
 use mathlib.Core.List.{List, [], _∷_}
 use mathlib.Core.Logic.{inl, inr}
-use Prim.Native.Nat.{ℕ, zero, suc, _≤_, _<_}
+use Prim.Native.Nat.{ℕ, zero, suc, _+_, _-_, _≤_, _<_}
+use native.Mathlib.Decide.{ℕ-discrete}
 use native.Mathlib.Omega.{arith}
 use borrow.Author.Tests.{ltb-false, leb-false, eqb-false}
 use lib.Dec.{T, leb, ltb, eqb}
-use Rattle.sequences.specs.Words.{every}
+use Rattle.sequences.specs.Words.{range, every}
 use Rattle.sequences.proofs.Tests.{T-or, T-then, T-eqb}
-use Rattle.network.specs.Record.{_when_, _then_, among, unlessRefused, sizeFault, outsideFault, terminalFault}
+use Rattle.network.specs.Record.{_when_, _then_, firstFault, among, unlessRefused, sizeFault, outsideFault, terminalFault}
 
 -- Two rules in a row find no fault exactly if neither does.
 pub then-none : (r s : ℕ) → (r then s) ≡ 0 → (r ≡ 0) × (s ≡ 0)
@@ -72,6 +73,51 @@ refused-some (suc r) a b d = refl
 pub or-none : (a b : Bool) → (a || b) ≡ false → (a ≡ false) × (b ≡ false)
 or-none true b e = absurd (true≢false e)
 or-none false b e = (refl, e)
+
+-- ---- a row of places
+
+-- What has no fault at k, and none past it, has none from k on.
+at-or-past : (f : ℕ → ℕ) (k j : ℕ) → f k ≡ 0 → (suc k ≤ j → f j ≡ 0) → k ≤ j → f j ≡ 0
+at-or-past f k j z later h = go (ℕ-discrete j k)
+  where
+    go : Dec (j ≡ k) → f j ≡ 0
+    go (yes p) = ap f p ∙ z
+    go (no d) = later (omega arith)
+
+-- The first fault of a row is none exactly if each place has none.
+pub row-none : (f : ℕ → ℕ) (k n : ℕ) → firstFault f k n ≡ 0 → (j : ℕ) → k ≤ j → j < k + n → f j ≡ 0
+unfolding range
+row-none f k zero e j h l = absurd (omega arith)
+row-none f k (suc n) e j h l =
+    let parts = then-none (f k) (firstFault f (suc k) n) e in
+    at-or-past f k j (parts .0) (λ p. row-none f (suc k) n (parts .1) j p (omega arith)) h
+
+pub none-row : (f : ℕ → ℕ) (k n : ℕ) → ((j : ℕ) → k ≤ j → j < k + n → f j ≡ 0) → firstFault f k n ≡ 0
+unfolding range
+none-row f k zero z = refl
+none-row f k (suc n) z = none-then _ (z k (omega arith) (omega arith)) ∙ none-row f (suc k) n (λ j h l. z j (omega arith) (omega arith))
+
+-- Otherwise it is that of some place, and each before it has none.
+pub row-first : (f : ℕ → ℕ) (k n : ℕ) → (firstFault f k n ≡ 0 → ⊥)
+    → (i : ℕ) × (k ≤ i) × (i < k + n) × ((j : ℕ) → k ≤ j → j < i → f j ≡ 0) × (firstFault f k n ≡ f i)
+unfolding range
+row-first f k zero some = absurd (some refl)
+row-first f k (suc n) some = go (row-first f (suc k) n) (ℕ-discrete (f k) 0)
+  where
+    go : ((firstFault f (suc k) n ≡ 0 → ⊥)
+        → (i : ℕ) × (suc k ≤ i) × (i < suc k + n) × ((j : ℕ) → suc k ≤ j → j < i → f j ≡ 0) × (firstFault f (suc k) n ≡ f i))
+        → Dec (f k ≡ 0)
+        → (i : ℕ) × (k ≤ i) × (i < k + suc n) × ((j : ℕ) → k ≤ j → j < i → f j ≡ 0) × ((f k then firstFault f (suc k) n) ≡ f i)
+    go later (no d) = (k, omega arith, omega arith, λ j h l. absurd (omega arith), some-then (f k) _ (omega arith))
+    go later (yes z) =
+        let on : (f k then firstFault f (suc k) n) ≡ firstFault f (suc k) n = none-then _ z in
+        let (i, h, l, before, here) = later (λ e. some (on ∙ e)) in
+        (i, omega arith, omega arith, λ j p q. at-or-past f k j z (λ r. before j r q) p, on ∙ here)
+
+-- It is that of its first place, or else that of the later ones.
+pub row-step : (f : ℕ → ℕ) (k n : ℕ) → k < n → firstFault f k (n - k) ≡ (f k then firstFault f (suc k) (n - suc k))
+unfolding range
+row-step f k n l = let more : n - k ≡ suc (n - suc k) = omega arith in ap (firstFault f k) more
 
 -- ---- which numbers are given
 

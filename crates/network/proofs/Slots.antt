@@ -4,20 +4,18 @@
 --   empty            what an empty slot holds
 --   Faultless N       size, terminals and each slot of N have no fault
 use mathlib.Core.Bool.{true, false, _||_, or-false, or-true}
-use mathlib.Core.List.{map, foldr}
 use mathlib.Core.Path.{_≡_, refl, sym, ap, subst, _∙_}
-use Prim.Native.Nat.{ℕ, zero, suc, _+_, _-_, _≤_, _<_, zero-le}
+use Prim.Native.Nat.{ℕ, suc, _-_, _<_, zero-le}
 use native.Mathlib.Decide.{ℕ-discrete}
 use native.Mathlib.Omega.{arith}
 use lib.ListN.{length-set}
 use lib.Seq.{getD-set-same, getD-set-other}
 use borrow.Author.Tests.{eq-eqb, ne-eqb}
-use Rattle.sequences.specs.Words.{range}
 use Rattle.bitset.proofs.Members.{has-insert, insert-lt}
 use Rattle.node_set.specs.Width.{nodeWidth}
 use Rattle.network.specs.declared.Network.{Network}
 use Rattle.network.specs.Record.{_then_, Stored, Slot, slot, slotFaultOf, slotFault, slotsFault, sizeFault, terminalFault, endFault, faultUpTo, faultOf, hasEdge, firstEnd, secondEnd, metresOf, withEdge, present}
-use Rattle.network.proofs.Refusals.{then-none, none-then}
+use Rattle.network.proofs.Refusals.{then-none, none-then, row-none, none-row, row-step}
 
 abbrev pub empty : Slot
 empty = (false, 0, 0, 0)
@@ -72,23 +70,6 @@ module _ (N : Network) (stored : Stored N) (k a b m : ℕ) (l : k < 64) where
 
 -- ---- all slots
 
--- The first fault of a row of slots is none exactly if each has none.
-pub row-none : (f : ℕ → ℕ) (k n : ℕ) → foldr _then_ 0 (map f (range k n)) ≡ 0 → (j : ℕ) → k ≤ j → j < k + n → f j ≡ 0
-unfolding range
-row-none f k zero e j h l = absurd (omega arith)
-row-none f k (suc n) e j h l =
-    let parts = then-none (f k) (foldr _then_ 0 (map f (range (suc k) n))) e in
-    at-or-past (parts .0) (λ (p : suc k ≤ j). row-none f (suc k) n (parts .1) j p (omega arith)) (ℕ-discrete j k)
-  where
-    at-or-past : f k ≡ 0 → (suc k ≤ j → f j ≡ 0) → Dec (j ≡ k) → f j ≡ 0
-    at-or-past z later (yes p) = ap f p ∙ z
-    at-or-past z later (no d) = later (omega arith)
-
-pub none-row : (f : ℕ → ℕ) (k n : ℕ) → ((j : ℕ) → k ≤ j → j < k + n → f j ≡ 0) → foldr _then_ 0 (map f (range k n)) ≡ 0
-unfolding range
-none-row f k zero z = refl
-none-row f k (suc n) z = none-then _ (z k (omega arith) (omega arith)) ∙ none-row f (suc k) n (λ j h l. z j (omega arith) (omega arith))
-
 -- A record is accepted exactly if its size, its terminals and each slot have no fault.
 pub record Faultless (N : Network) : Type 0 where
   pub size : sizeFault nodeWidth (N .nodes) ≡ 0
@@ -109,5 +90,5 @@ accepted-none N a =
 
 -- The first fault of the slots from k on is that of slot k, or else that of the later ones.
 pub slots-step : (N : Network) (k : ℕ) → k < 64 → slotsFault N k (64 - k) ≡ (slotFault N k then slotsFault N (suc k) (64 - suc k))
-unfolding slotsFault range
-slots-step N k l = let more : 64 - k ≡ suc (64 - suc k) = omega arith in ap (λ n. foldr _then_ 0 (map (slotFault N) (range k n))) more
+unfolding slotsFault
+slots-step N k l = row-step (slotFault N) k 64 l

@@ -3,6 +3,7 @@
 --
 --   r when b         the refusal r where b holds, else 0
 --   r then s         r unless it is 0, else s: the first fault decides
+--   firstFault f k n the first fault of the n places from k on, where that of place j is f j
 --   among l r        whether r is 0 or one of the numbers of l
 --   unlessRefused r a b      a, or b where r is a refusal: what a call gives, and what lent memory holds after it
 --
@@ -57,6 +58,10 @@ r when b = cond b r 0
 unfoldable pub _then_ : ℕ → ℕ → ℕ
 zero then s = s
 suc r then s = suc r
+
+-- Place after place: the first fault decides.
+abbrev pub firstFault : (ℕ → ℕ) → ℕ → ℕ → ℕ
+firstFault f k n = foldr _then_ 0 (map f (range k n))
 
 -- Whether r is 0 or one of the numbers of l: the rules that a call keeps are a list, and the numbers may have gaps.
 unfoldable pub among : List ℕ → ℕ → Bool
@@ -129,7 +134,7 @@ slotFault N k = slotFaultOf (N .nodes) (slot N k)
 
 -- The first fault of the n slots from k on.
 unfoldable pub slotsFault : Network → ℕ → ℕ → ℕ
-slotsFault N k n = foldr _then_ 0 (map (slotFault N) (range k n))
+slotsFault N = firstFault (slotFault N)
 
 -- The numbers that the record test can give.
 abbrev pub recordRefusals : List ℕ

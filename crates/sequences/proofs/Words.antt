@@ -1,14 +1,16 @@
 -- The laws of lists made from lists.
 -- Assumes nothing.
-use mathlib.Core.Path.{_≡_, refl}
+use mathlib.Core.Path.{_≡_, refl, ap, _∙_}
 use mathlib.Core.Bool.{Bool, true, false}
 use mathlib.Core.List.{List, [], _∷_, Pairwise·nil, Pairwise·cons, pairwise-cons, List·Mem, List·Memᴰ, List·Memᴰ·head, List·Memᴰ·tail, List·Memᴰ·not-nil, List·Memᴰ·cases-cons}
 use mathlib.Core.Logic.{inl, inr, _↔_, ∥∥₁-elim}
-use Prim.Native.Nat.{ℕ, _<_}
+use Prim.Native.Nat.{ℕ, _≤_, _<_}
 use native.Mathlib.Bridge.{le-prop}
+use native.Mathlib.Omega.{arith}
 use denote.Floats.{passes}
 use lib.Dec.{T}
-use lib.ListN.{length, getD, drop, List·getD-append}
+use lib.ListN.{length, getD, drop, List·getD-append, length-append, length-drop}
+use lib.Seq.{drop-at}
 use Rattle.sequences.specs.Rising.{Rising}
 use Rattle.sequences.specs.Words.{every, passing, onto}
 use Rattle.sequences.proofs.Tests.{T-then}
@@ -65,3 +67,11 @@ module _ (f : ℕ → Bool) where
 -- Below the length of a list that was written onto lent rows stands what stands in the list.
 pub getD-onto : (l lent : List ℕ) (i : ℕ) → i < length l → getD (onto l lent) i 0 ≡ getD l i 0
 getD-onto l lent i h = List·getD-append l (drop (length l) lent) 0 i h
+
+-- Past it stands what stood there.
+pub drop-onto : (l lent : List ℕ) (n : ℕ) → length l ≡ n → drop n (onto l lent) ≡ drop n lent
+drop-onto l lent n count = drop-at l (drop (length l) lent) n count ∙ ap (λ (m : ℕ). drop m lent) count
+
+-- Where it fits, there are as many rows as before.
+pub length-onto : (l lent : List ℕ) → length l ≤ length lent → length (onto l lent) ≡ length lent
+length-onto l lent fits = omega (arith, length-append l (drop (length l) lent), length-drop (length l) lent)

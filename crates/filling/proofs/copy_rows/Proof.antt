@@ -8,7 +8,7 @@ use lib.ListN.{length, take, set, getD, length-set}
 use lib.Seq.{take-all}
 use borrow.Author.Needs.{needs}
 use Rattle.sequences.specs.Words.{onto}
-use Rattle.filling.proofs.Onto.{onto-next}
+use Rattle.sequences.proofs.Stores.{onto-next}
 use Rattle.filling.proofs.copy_rows.Statement.{statement}
 use Rattle.filling.proofs.copy_rows.Tie as tie
 

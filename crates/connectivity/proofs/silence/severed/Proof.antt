@@ -1,4 +1,4 @@
--- `judging::severed` meets its contract: the spread is over the table of the edges outside the set, from the source.
+-- `silence::severed` meets its contract: the spread is over the table of the edges outside the set, from the source.
 -- Assumes nothing.
 use mathlib.Core.Path.{_≡_, subst}
 use Prim.Native.Nat.{ℕ}
@@ -14,8 +14,8 @@ use Rattle.graph.proofs.Sound.{Sound, accepted-sound}
 use Rattle.adjacency.specs.Adjacency.{Adjacency}
 use Rattle.adjacency.proofs.Reaching.{reached-all}
 use borrow.Author.Needs.{needs}
-use Rattle.connectivity.proofs.judging.severed.Statement.{statement}
-use Rattle.connectivity.proofs.judging.severed.Tie as tie
+use Rattle.connectivity.proofs.silence.severed.Statement.{statement}
+use Rattle.connectivity.proofs.silence.severed.Tie as tie
 
 difference-requires : tie.Need-difference-requires
 difference-requires c κs = search needs
