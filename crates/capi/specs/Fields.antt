@@ -6,6 +6,8 @@
 --   Found N r n e        finding the relevant part of N gives the refusal r, the nodes n and the edges e
 --   Judged N c r v       judging the set c in N gives the refusal r and the verdict v, by its number
 --   JudgedMeans N c r v  what the refusal r and the verdict v on c mean
+--   Played N log lent r n after     playing the log back for N into bytes that held `lent` gives the refusal r and the count n, and leaves
+--                        `after` in them
 --   Total N c r m        adding up the metres of the set c in N gives the refusal r and the total m
 --
 -- Of the two calls that list these are `Listing` (listing, List) and `TrimmedListing` (listing, Trimmed).
@@ -19,6 +21,7 @@ use Rattle.format.specs.Format.{decodeOf, encodedBy, bytesAfter}
 use Rattle.graph.specs.Cuts.{Cut, Mincut}
 use Rattle.connectivity.specs.Answers.{relevantOf, verdictOf, numbersOf}
 use Rattle.lengths.specs.Lengths.{totalOf}
+use Rattle.replay.specs.Replay.{replayedBy, silentAfter}
 
 pub record Read (s : List ℕ) (r : ℕ) (N : Network) : Type 0 where
   pub refusal : r ≡ decodeOf s .refusal
@@ -44,6 +47,11 @@ pub record JudgedMeans (N : Network) (c r v : ℕ) : Type 0 where
   pub not-cut : (v ≡ 1) ↔ ((r ≡ 0) × (Cut N c → ⊥))
   pub not-minimal : (v ≡ 2) ↔ ((r ≡ 0) × Cut N c × (Mincut N c → ⊥))
   pub minimal : (v ≡ 3) ↔ ((r ≡ 0) × Mincut N c)
+
+pub record Played (N : Network) (log lent : List ℕ) (r n : ℕ) (after : List ℕ) : Type 0 where
+  pub refusal : r ≡ replayedBy N log lent .refusal
+  pub count : n ≡ replayedBy N log lent .count
+  pub bytes : after ≡ silentAfter N log lent
 
 pub record Total (N : Network) (c r m : ℕ) : Type 0 where
   pub refusal : r ≡ totalOf N c .refusal

@@ -14,7 +14,8 @@ ghost use Rattle.connectivity.specs.Answers.{PartMeans};
 ghost use Rattle.lengths.specs.Lengths.{TotalMeans};
 ghost use Rattle.listing.specs.List.{Listing, ListMeans};
 ghost use Rattle.listing.specs.Trimmed.{TrimmedListing, TrimmedMeans};
-ghost use Rattle.capi.specs.Fields.{Read, Written, Found, Judged, JudgedMeans, Total};
+ghost use Rattle.replay.specs.Replay.{ReplayMeans};
+ghost use Rattle.capi.specs.Fields.{Read, Written, Found, Judged, JudgedMeans, Played, Total};
 
 // Reads a plan. Gives the refusal's number, 0 if there is none, and fills in the record, all zero on refusal.
 #[no_mangle]
@@ -236,6 +237,31 @@ pub extern "C" fn cutlist_list_trimmed(
     let answered = listing::list_trimmed(offered, cuts, sides);
     *count = answered.count;
     answered.refusal
+}
+
+// Plays a link log back. Gives the refusal's number, 0 if there is none, and the count of bytes written, 0 on refusal.
+#[no_mangle]
+pub extern "C" fn cutlist_replay(
+    nodes: u8,
+    source: u8,
+    sink: u8,
+    present: u64,
+    first: &[u8; 64],
+    second: &[u8; 64],
+    metres: &[u16; 64],
+    log: &[u8],
+    silent: &mut [u8],
+    count: &mut usize,
+) -> u8
+    ensures { λ r. ⌜ Played (assembled nodes source sink present (now (first .entry)) (now (second .entry)) (now (metres .entry))) (now (log .entry)) (now (silent .entry))
+        r (now (count .exit)) (now (silent .exit)) ⌝ }
+    ensures means { λ r. ⌜ ReplayMeans (assembled nodes source sink present (now (first .entry)) (now (second .entry)) (now (metres .entry))) (now (log .entry)) (now (silent .entry))
+        r (now (count .exit)) (now (silent .exit)) ⌝ }
+{
+    let cabled = assemble(nodes, source, sink, present, first, second, metres);
+    let replayed = replay::replay(cabled, log, silent);
+    *count = replayed.count;
+    replayed.refusal
 }
 
 // Counts the rows of a list by width: the number of rows with so many cables, for each width from 0 to 64.

@@ -13,6 +13,8 @@ use Rattle.format.proofs.Writing.{encode-decode}
 use Rattle.graph.proofs.Agree.{Agree}
 use Rattle.connectivity.proofs.Agree.{part-agrees, verdict-agrees}
 use Rattle.listing.proofs.Agree.{mincuts-agree, sourceSides-agree, call-agrees}
+use Rattle.replay.proofs.Events.{log-more}
+use Rattle.replay.proofs.Agree.{replay-agrees}
 use Rattle.text.specs.Text.{refusalLine, listText, maxRows}
 use Rattle.report.specs.Report.{listReport, reportOf}
 use Rattle.demands.specs.Alike.{Alike}
@@ -31,5 +33,6 @@ module _ (M N : Network) (stored′ : Stored M) (stored : Stored N) (ok′ : fau
     part = part-agrees M N stored′ stored ok′ ok agree;
     verdicts = λ c within. verdict-agrees M N stored′ stored ok′ ok agree c (λ k m. more k (within k m)) within;
     list = call-agrees M N stored′ stored ok′ ok agree;
+    replay = λ log lent good. replay-agrees M N stored′ stored ok′ ok agree log (log-more (present N) log (present M) more good) lent;
     printed = rw (encode-decode M stored′ ok′, encode-decode N stored ok) report-agrees;
   }

@@ -46,10 +46,15 @@ use Rattle.listing.proofs.Call.{Answered, answered-faulty, answered-unpaired, a
 use Rattle.listing.proofs.Meaning.{mincuts-complete, outnumber-iff, call-complete, call-outnumbered}
 use Rattle.listing.proofs.Rows.{mincuts-count}
 use Rattle.listing.proofs.Trimmed.{TrimmedAnswered, trimmed-answered-refused, trimmed-answered}
+use Rattle.replay.specs.declared.Replayed.{Replayed}
+use Rattle.replay.specs.Log.{eventCount}
+use Rattle.replay.specs.Replay.{replayRefusal, replayedBy, silentAfter}
+use Rattle.replay.proofs.Events.{LogCase, good, unknown, absent, half, log-case}
+use Rattle.replay.proofs.Meaning.{Answered as Played, replay-refused, replay-played, refusal-faulty, refusal-short, refusal-log, replay-means}
 use Rattle.text.specs.Text.{refusalLine, maxRows}
 use Rattle.report.specs.Report.{listReport, reportOf}
 use Rattle.report.proofs.Reports.{report-outnumbered, report-complete}
-use Rattle.demands.specs.Endings.{ReaderEnds, PartEnds, JudgingEnds, TotalEnds, Kept, ListEnds, TrimmedEnds, WriterEnds, ReportEnds}
+use Rattle.demands.specs.Endings.{ReaderEnds, PartEnds, JudgingEnds, TotalEnds, Kept, ListEnds, TrimmedEnds, ReplayEnds, WriterEnds, ReportEnds}
 use Rattle.demands.specs.Demands.{DemandOne}
 
 -- A record without a fault keeps the rules.
@@ -187,6 +192,39 @@ module _ (N : Network) (stored : Stored N) (cuts sides : List ℕ) where
           trimmed-ended (trimmed-answered N cuts sides (trimmed-none N ok q) (refl, refl, refl))
           (TrimmedEnds.listed _ _ _ (rules N ok) (trimmed-iff N (accepted-sound N stored ok) .0 (rw q tt)) (list N stored cuts sides))
 
+-- ---- playing a log back
+
+module _ (N : Network) (stored : Stored N) (log lent : List ℕ) where
+  -- What ends so is what the call answers and leaves.
+  replay-ended : {a : Replayed} {after : List ℕ} → Played N log lent a after → ReplayEnds N log lent a after
+      → ReplayEnds N log lent (replayedBy N log lent) (silentAfter N log lent)
+  replay-ended a e = rw (← a .0, ← a .1) e
+
+  -- By the log's fault, where the record has none and there is a byte for each event.
+  replay-log : Rules N → eventCount log ≤ length lent → {r : ℕ} → replayRefusal N log lent ≡ r → LogCase (present N) log r
+      → ReplayEnds N log lent (replayedBy N log lent) (silentAfter N log lent)
+  replay-log kept fits e (good k) =
+      let left = replay-played N log lent _ e refl in
+      let means = replay-means N stored log lent left .1 in
+      replay-ended left (ReplayEnds.played _ kept fits k (means .told refl) (record { size = means .size; later = means .later }))
+  replay-log kept fits e (unknown i l before f) =
+      replay-ended (replay-refused N log lent 16 (sym e) (λ z. omega arith)) (ReplayEnds.unknown kept fits i l before f)
+  replay-log kept fits e (absent i l before k f) =
+      replay-ended (replay-refused N log lent 17 (sym e) (λ z. omega arith)) (ReplayEnds.absent kept fits i l before k f)
+  replay-log kept fits e (half whole f) =
+      replay-ended (replay-refused N log lent 16 (sym e) (λ z. omega arith)) (ReplayEnds.half kept fits whole f)
+
+  replay : ReplayEnds N log lent (replayedBy N log lent) (silentAfter N log lent)
+  replay = go (ℕ-discrete (faultOf N) 0) (decLt (length lent) (eventCount log))
+    where
+      go : Dec (faultOf N ≡ 0) → Dec (length lent < eventCount log) → ReplayEnds N log lent (replayedBy N log lent) (silentAfter N log lent)
+      go (no f) d = replay-ended (replay-refused N log lent (faultOf N) (sym (refusal-faulty N log lent f)) f) (ReplayEnds.faulty (some f))
+      go (yes ok) (yes h) =
+          replay-ended (replay-refused N log lent 18 (sym (refusal-short N log lent ok h)) (λ z. omega arith)) (ReplayEnds.short (rules N ok) h)
+      go (yes ok) (no h) =
+          let fits : eventCount log ≤ length lent = omega arith in
+          replay-log (rules N ok) fits (refusal-log N log lent ok fits) (log-case (present N) log)
+
 -- ---- writing
 
 writer : (N : Network) (lent : List ℕ) → WriterEnds N lent (encodedBy N lent) (bytesAfter N lent)
@@ -242,6 +280,7 @@ demand-one = record {
   list = list;
   too-many = λ N stored cuts sides. call-outnumbered N stored cuts sides refl;
   trimmed = trimmed-list;
+  replay = replay;
   writer = λ N stored. writer N;
   program = program;
 }

@@ -34,6 +34,8 @@ use Rattle.listing.specs.declared.Listed.{Listed}
 use Rattle.listing.specs.List.{listedBy, cutRowsAfter}
 use Rattle.listing.specs.Trimmed.{trimmedListedBy, trimmedCutRows, trimmedSideRows}
 use Rattle.listing.proofs.Agree.{trimmed-call-agrees}
+use Rattle.replay.specs.Replay.{replayedBy, silentAfter}
+use Rattle.replay.proofs.Agree.{replay-agrees}
 use Rattle.demands.specs.Alike.{Alike}
 use Rattle.demands.specs.Lengths.{EdgeFits, LengthPlaces, withMetres, Accepted, MetresUnread}
 use Rattle.demands.proofs.Alike.{alike}
@@ -160,6 +162,9 @@ module _ (N : Network) (l : List ℕ) where
         × (trimmedSideRows M cuts sides ≡ trimmedSideRows N cuts sides)
     trimmed = trimmed-call-agrees M N (b .stored) (a .stored) (b .faultless) (a .faultless) agree refl refl
 
+    replay : (log lent : List ℕ) → (replayedBy M log lent ≡ replayedBy N log lent) × (silentAfter M log lent ≡ silentAfter N log lent)
+    replay log lent = replay-agrees M N (b .stored) (a .stored) (b .faultless) (a .faultless) agree log refl lent
+
     counts : (cuts sides : List ℕ) → listedBy M cuts sides .count ≡ listedBy N cuts sides .count
     counts cuts sides = ap (λ (x : Listed). x .count) (answers .list cuts sides .0)
 
@@ -182,5 +187,6 @@ metres-unread = record {
   answers = answers;
   verdicts = verdicts;
   trimmed = trimmed;
+  replay = replay;
   equality = equality;
 }

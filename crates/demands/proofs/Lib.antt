@@ -1,4 +1,4 @@
--- The demands, loops and metres, what earlier plans keep, then the halls.
+-- The demands, loops, metres and logs, what earlier plans keep, then the halls.
 pub mod DemandOne
 pub mod DemandTwo
 pub mod DemandThree
@@ -6,6 +6,7 @@ pub mod Alike
 pub mod Loops
 pub mod Lengths
 pub mod Trimmed
+pub mod Replay
 pub mod Kept
 pub mod Lifted
 pub mod KeptLengths

@@ -33,6 +33,9 @@ use Rattle.lengths.specs.Lengths.{totalOf}
 use Rattle.listing.specs.List.{mincuts, sourceSides, listRefusal, listedBy}
 use Rattle.trimmed.specs.Trimmed.{trimmedFault}
 use Rattle.listing.specs.Trimmed.{trimmedRefusal, trimmedListedBy}
+use Rattle.replay.specs.Log.{eventCount}
+use Rattle.replay.specs.Replay.{replayRefusal, replayedBy}
+use Rattle.replay.proofs.Events.{LogCase, good, unknown, absent, half, log-case}
 use Rattle.text.specs.Text.{digits, decimal, wordLine, refusalLine, listText, maxRows}
 use Rattle.report.specs.Report.{listReport, reportOf}
 use Rattle.demands.specs.Loops.{LoopsApart, AsWithout, LoopAdded, TenGone}
@@ -151,6 +154,19 @@ list N cuts sides =
     then-other (faultOf N) (test N) (then-other (11 when not (eqb (length cuts) (length sides)))
     (when-other 11 _ (λ e. omega arith) (omega arith)) (when-other 12 _ (λ e. omega arith) (omega arith)))
 
+-- No log has this fault.
+log-fault : {p : ℕ} {log : List ℕ} {r : ℕ} → LogCase p log r → r ≡ 10 → ⊥
+log-fault (good k) e = omega arith
+log-fault (unknown i l g f) e = omega arith
+log-fault (absent i l g k f) e = omega arith
+log-fault (half g f) e = omega arith
+
+replay : (N : Network) (log lent : List ℕ) → replayedBy N log lent .refusal ≡ 10 → ⊥
+unfolding replayedBy replayRefusal
+replay N log lent =
+    then-other (faultOf N) (test N) (then-other (18 when ltb (length lent) (eventCount log))
+    (when-other 18 _ (λ e. omega arith) (omega arith)) (log-fault (log-case (present N) log)))
+
 pub ten-gone : TenGone
 unfolding among totalOf listedBy trimmedFault trimmedRefusal trimmedListedBy encodedBy encodeRefusal
 ten-gone = record {
@@ -161,6 +177,7 @@ ten-gone = record {
   total = set;
   list = list;
   trimmed = λ N cuts sides. then-other (trimmedFault N) (then-other (faultOf N) (test N) (when-other 26 _ (λ e. omega arith) (omega arith))) (list N cuts sides);
+  replay = replay;
   writer = λ N lent. then-other (faultOf N) (test N) (when-other 15 _ (λ e. omega arith) (omega arith));
   program = program;
 }

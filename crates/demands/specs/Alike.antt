@@ -1,7 +1,7 @@
 -- Two networks for which the calls answer alike.
 -- To believe.
 --
---   Alike M N        M has the useful part, the verdicts on N's cables, the list and the print of N
+--   Alike M N        M has the useful part, the verdicts on N's cables, the list and the print of N, and logs of N's cables play back alike
 use mathlib.Core.List.{List}
 use mathlib.Core.Path.{_≡_}
 use Prim.Native.Nat.{ℕ}
@@ -11,6 +11,8 @@ use Rattle.network.specs.Record.{present}
 use Rattle.format.specs.Format.{encodeOf}
 use Rattle.connectivity.specs.Answers.{relevantOf, verdictOf}
 use Rattle.listing.specs.List.{listedBy, cutRowsAfter, sideRowsAfter}
+use Rattle.replay.specs.Log.{eventCount, GoodEvents}
+use Rattle.replay.specs.Replay.{replayedBy, silentAfter}
 use Rattle.report.specs.Report.{reportOf}
 
 -- The list call answers alike and leaves the same rows, whatever was lent: count, cuts, sides and later rows, on refusal too.
@@ -21,4 +23,6 @@ pub record Alike (M N : Network) : Type 0 where
       → (listedBy M cuts sides ≡ listedBy N cuts sides)
       × (cutRowsAfter M cuts sides ≡ cutRowsAfter N cuts sides)
       × (sideRowsAfter M cuts sides ≡ sideRowsAfter N cuts sides)
+  pub replay : (log lent : List ℕ) → GoodEvents (present N) log (eventCount log)
+      → (replayedBy M log lent ≡ replayedBy N log lent) × (silentAfter M log lent ≡ silentAfter N log lent)
   pub printed : reportOf (encodeOf M) ≡ reportOf (encodeOf N)

@@ -1,6 +1,6 @@
 -- The customer's three demands, as statements about the calls. What a call answers and leaves is what its contract says: `decodeOf`,
--- `faultOf`, `relevantOf`, `verdictOf`, `totalOf`, `listedBy` and `trimmedListedBy` with the rows afterwards, `encodedBy` with the bytes
--- afterwards, and `reportOf` of the program. What the types of the code say of any record, `Stored N`, is in the contract of every call that takes one, and
+-- `faultOf`, `relevantOf`, `verdictOf`, `totalOf`, `listedBy` and `trimmedListedBy` with the rows afterwards, `replayedBy` and `encodedBy`
+-- with the bytes afterwards, and `reportOf` of the program. What the types of the code say of any record, `Stored N`, is in the contract of every call that takes one, and
 -- what they say of any bytes, `Bytes s`, in that of the reader.
 -- To believe.
 --
@@ -22,8 +22,9 @@ use Rattle.connectivity.specs.Answers.{relevantOf, verdictOf}
 use Rattle.lengths.specs.Lengths.{totalOf}
 use Rattle.listing.specs.List.{listedBy, cutRowsAfter, sideRowsAfter}
 use Rattle.listing.specs.Trimmed.{trimmedListedBy, trimmedCutRows, trimmedSideRows}
+use Rattle.replay.specs.Replay.{replayedBy, silentAfter}
 use Rattle.report.specs.Report.{reportOf}
-use Rattle.demands.specs.Endings.{ReaderEnds, PartEnds, JudgingEnds, TotalEnds, ListEnds, TrimmedEnds, WriterEnds, ReportEnds}
+use Rattle.demands.specs.Endings.{ReaderEnds, PartEnds, JudgingEnds, TotalEnds, ListEnds, TrimmedEnds, ReplayEnds, WriterEnds, ReportEnds}
 
 pub record DemandOne : Type 0 where
   -- The record test finds no fault exactly if the record keeps the rules.
@@ -41,6 +42,7 @@ pub record DemandOne : Type 0 where
       → (listedBy N cuts sides .refusal ≡ 12) ↔ ((faultOf N ≡ 0) × (length cuts ≡ length sides) × Outnumber N (length cuts))
   pub trimmed : (N : Network) → Stored N → (cuts sides : List ℕ)
       → TrimmedEnds N cuts sides (trimmedListedBy N cuts sides) (trimmedCutRows N cuts sides) (trimmedSideRows N cuts sides)
+  pub replay : (N : Network) → Stored N → (log lent : List ℕ) → ReplayEnds N log lent (replayedBy N log lent) (silentAfter N log lent)
   pub writer : (N : Network) → Stored N → (lent : List ℕ) → WriterEnds N lent (encodedBy N lent) (bytesAfter N lent)
   pub program : (s : List ℕ) → ReportEnds s (reportOf s)
 

@@ -12,14 +12,15 @@
 --   Kept n before after              lent rows or bytes: as many as before, and past the first n what they held
 --   ListEnds N cuts sides l cuts′ sides′     listing N into rows that held `cuts` and `sides` gives l and leaves cuts′ and sides′
 --   TrimmedEnds N cuts sides l cuts′ sides′  listing N, trimmed already, into such rows gives l and leaves cuts′ and sides′
+--   ReplayEnds N log lent a after    playing the log back for N into bytes that held `lent` gives a and leaves `after`
 --   WriterEnds N lent e after        writing N into a buffer that held `lent` gives e and leaves `after`
 --   ReportEnds s t                   for the input s the list program prints t
 use mathlib.Core.List.{List}
 use mathlib.Core.Logic.{_↔_}
 use mathlib.Core.Path.{_≡_}
-use Prim.Native.Nat.{ℕ, _≤_, _<_}
+use Prim.Native.Nat.{ℕ, suc, _%_, _≤_, _<_}
 use lib.Dec.{T}
-use lib.ListN.{length, drop}
+use lib.ListN.{length, getD, drop}
 use Rattle.sequences.specs.Words.{onto}
 use Rattle.bitset.specs.Members.{_∈_, _⊆_}
 use Rattle.network.specs.declared.Network.{Network}
@@ -36,6 +37,9 @@ use Rattle.connectivity.specs.Answers.{partFrom, Says, numbersOf}
 use Rattle.lengths.specs.declared.Measured.{Measured}
 use Rattle.lengths.specs.Lengths.{totalMetres}
 use Rattle.listing.specs.declared.Listed.{Listed}
+use Rattle.replay.specs.declared.Replayed.{Replayed}
+use Rattle.replay.specs.Log.{eventCount, edgeAt, downAfter, Command, GoodEvents, LogRules}
+use Rattle.replay.specs.Replay.{Tells}
 use Rattle.text.specs.Text.{refusalLine, listText, maxRows}
 
 -- A plan within the rules is read; any other bytes are refused with one of the reader's numbers, beside the all-zero record.
@@ -79,6 +83,21 @@ pub data TrimmedEnds (N : Network) (cuts sides : List ℕ) : Listed → List ℕ
   listed : (l : Listed) (cuts′ sides′ : List ℕ) → Rules N → Trimmed N → ListEnds N cuts sides l cuts′ sides′ → TrimmedEnds N cuts sides l cuts′ sides′
   faulty : 0 < faultOf N → TrimmedEnds N cuts sides (record { refusal = faultOf N; count = 0 }) cuts sides
   untrimmed : Rules N → Untrimmed N → TrimmedEnds N cuts sides (record { refusal = 26; count = 0 }) cuts sides
+
+-- For each event whether the room is silent after it, and later bytes as they were; 18 for more whole events than bytes; then the first
+-- event that is not good decides, 16 for its command before 17 for its edge, and half an event behind good ones is 16.
+pub data ReplayEnds (N : Network) (log lent : List ℕ) : Replayed → List ℕ → Type 0 where
+  played : (after : List ℕ) → Rules N → eventCount log ≤ length lent → LogRules (present N) log
+      → ((i : ℕ) → i < eventCount log → Tells N (downAfter log (suc i)) (getD after i 0)) → Kept (eventCount log) lent after
+      → ReplayEnds N log lent (record { refusal = 0; count = eventCount log }) after
+  faulty : 0 < faultOf N → ReplayEnds N log lent (record { refusal = faultOf N; count = 0 }) lent
+  short : Rules N → length lent < eventCount log → ReplayEnds N log lent (record { refusal = 18; count = 0 }) lent
+  unknown : Rules N → eventCount log ≤ length lent → (i : ℕ) → i < eventCount log → GoodEvents (present N) log i → (Command log i → ⊥)
+      → ReplayEnds N log lent (record { refusal = 16; count = 0 }) lent
+  absent : Rules N → eventCount log ≤ length lent → (i : ℕ) → i < eventCount log → GoodEvents (present N) log i → Command log i
+      → (edgeAt log i ∈ present N → ⊥) → ReplayEnds N log lent (record { refusal = 17; count = 0 }) lent
+  half : Rules N → eventCount log ≤ length lent → GoodEvents (present N) log (eventCount log) → (length log % 2 ≡ 0 → ⊥)
+      → ReplayEnds N log lent (record { refusal = 16; count = 0 }) lent
 
 -- The plan's bytes and later bytes as they were; 15 for a buffer that is too short.
 pub data WriterEnds (N : Network) (lent : List ℕ) : Encoded → List ℕ → Type 0 where

@@ -22,6 +22,7 @@ use Rattle.graph.specs.Lists.{SameList}
 use Rattle.connectivity.specs.Answers.{verdictOf}
 use Rattle.listing.specs.List.{listedBy, cutRowsAfter}
 use Rattle.listing.specs.Trimmed.{trimmedListedBy, trimmedCutRows, trimmedSideRows}
+use Rattle.replay.specs.Replay.{replayedBy, silentAfter}
 use Rattle.demands.specs.Alike.{Alike}
 
 -- ---- in bytes
@@ -71,6 +72,9 @@ pub record MetresUnread : Type 0 where
       → (trimmedListedBy (withMetres N l) cuts sides ≡ trimmedListedBy N cuts sides)
       × (trimmedCutRows (withMetres N l) cuts sides ≡ trimmedCutRows N cuts sides)
       × (trimmedSideRows (withMetres N l) cuts sides ≡ trimmedSideRows N cuts sides)
+  -- On logs with an absent cable too.
+  pub replay : (N : Network) (l : List ℕ) → Accepted N → Accepted (withMetres N l) → (log lent : List ℕ)
+      → (replayedBy (withMetres N l) log lent ≡ replayedBy N log lent) × (silentAfter (withMetres N l) log lent ≡ silentAfter N log lent)
   -- Two lists are equal, or not, whatever the metres of either plan.
   pub equality : (N M : Network) (l m : List ℕ) → Accepted N → Accepted (withMetres N l) → Accepted M → Accepted (withMetres M m)
       → (cuts sides cuts′ sides′ : List ℕ)

@@ -20,6 +20,7 @@ use Rattle.connectivity.specs.Answers.{relevantOf, verdictOf}
 use Rattle.lengths.specs.Lengths.{totalOf}
 use Rattle.listing.specs.List.{listedBy}
 use Rattle.listing.specs.Trimmed.{trimmedListedBy}
+use Rattle.replay.specs.Replay.{replayedBy}
 use Rattle.text.specs.Text.{refusalLine}
 use Rattle.report.specs.Report.{reportOf}
 use Rattle.demands.specs.Alike.{Alike}
@@ -47,5 +48,6 @@ pub record TenGone : Type 0 where
   pub total : (N : Network) (c : ℕ) → totalOf N c .refusal ≡ 10 → ⊥
   pub list : (N : Network) (cuts sides : List ℕ) → listedBy N cuts sides .refusal ≡ 10 → ⊥
   pub trimmed : (N : Network) (cuts sides : List ℕ) → trimmedListedBy N cuts sides .refusal ≡ 10 → ⊥
+  pub replay : (N : Network) (log lent : List ℕ) → replayedBy N log lent .refusal ≡ 10 → ⊥
   pub writer : (N : Network) (lent : List ℕ) → encodedBy N lent .refusal ≡ 10 → ⊥
   pub program : (s : List ℕ) → reportOf s ≡ refusalLine 10 → ⊥

@@ -23,6 +23,11 @@ pub const END_OUTSIDE: u8 = 9; // a cable end not below the point count
 
 pub const BAD_LENGTH: u8 = 28; // a length that is not of the cable just before it, or of 0 metres
 
+// By what kept the log.
+pub const BAD_EVENT: u8 = 16; // an event with an unknown command, or half an event
+
+pub const NO_SUCH_EDGE: u8 = 17; // an event of a cable not present
+
 // By the program that calls.
 pub const ROWS_DIFFER: u8 = 11; // cut rows and side rows differ in number
 
@@ -33,5 +38,7 @@ pub const ABSENT_EDGE_NOT_ZERO: u8 = 13; // an absent cable with an end or metre
 pub const EDGE_NOT_PRESENT: u8 = 14; // a given set holds a cable not present
 
 pub const BUFFER_TOO_SHORT: u8 = 15; // the plan needs more bytes than were lent
+
+pub const TOO_MANY_EVENTS: u8 = 18; // more whole events than bytes lent
 
 pub const NOT_TRIMMED: u8 = 26; // some point or present cable is not useful

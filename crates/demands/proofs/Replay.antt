@@ -1,0 +1,75 @@
+-- Link logs played back: what each byte that the call left tells, and what the events of a log do.
+-- Assumes what the code's types say of the records.
+use mathlib.Core.List.{List}
+use mathlib.Core.Logic.{_⊎_, _↔_, Iff·trans}
+use mathlib.Core.Path.{_≡_, refl, ap₂, _∙_}
+use Prim.Native.Nat.{ℕ, suc, _<_}
+use native.Mathlib.Omega.{arith}
+use lib.ListN.{getD}
+use Rattle.bitset.specs.Members.{_⊆_, _∈_}
+use Rattle.bitset.proofs.Sets.{not-zero, in-insert, in-drop}
+use Rattle.bitset.proofs.Subsets.{zero-⊆}
+use Rattle.network.specs.declared.Network.{Network}
+use Rattle.network.specs.Record.{Stored}
+use Rattle.graph.specs.Paths.{Minpath}
+use Rattle.graph.specs.Cuts.{HoldsMincut}
+use Rattle.graph.specs.Lists.{CompleteList}
+use Rattle.graph.proofs.Cuts.{mincut-none}
+use Rattle.listing.specs.List.{cutRowsAfter}
+use Rattle.replay.specs.Log.{commandAt, edgeAt, changed, downAfter}
+use Rattle.replay.specs.Replay.{replayedBy, silentAfter, Tells}
+use Rattle.replay.proofs.Events.{changed-down, changed-up, changed-twice}
+use Rattle.replay.proofs.Meaning.{replay-means}
+use Rattle.demands.specs.Replay.{LogPlayed}
+use Rattle.demands.proofs.DemandTwo.{demand-two}
+
+-- ---- what a byte tells
+
+-- A set of edges holds a mincut exactly if it holds a row of a complete list.
+holds-row : (N : Network) (n : ℕ) (cuts sides : List ℕ) → CompleteList N n cuts sides → (d : ℕ)
+    → HoldsMincut N d ↔ ((j : ℕ) × (j < n) × (getD cuts j 0 ⊆ d))
+holds-row N n cuts sides whole d = (
+  λ h. let (j, l, e) = whole .members (h .0) .1 (h .1 .0) in (j, l, rw e (h .1 .1)),
+  λ r. (getD cuts (r .0) 0, (whole .members (getD cuts (r .0) 0) .0 (r .0, r .1, refl), r .2)),
+)
+
+module _ (N : Network) (stored : Stored N) (log lent : List ℕ) (none : replayedBy N log lent .refusal ≡ 0) where
+  right : (i : ℕ) → i < replayedBy N log lent .count → Tells N (downAfter log (suc i)) (getD (silentAfter N log lent) i 0)
+  right = replay-means N stored log lent (refl, refl) .1 .told none
+
+  -- The empty mincut is always down.
+  no-route : ((r : ℕ) → Minpath N r → ⊥) → (i : ℕ) → i < replayedBy N log lent .count → getD (silentAfter N log lent) i 0 ≡ 1
+  no-route apart i within = right i within .cut .1 (0, (mincut-none N apart 0 .1 refl, zero-⊆ (downAfter log (suc i))))
+
+-- ---- what an event does
+
+module _ (log : List ℕ) (n : ℕ) where
+  abbrev before : ℕ
+  before = downAfter log n
+
+  down : (k : ℕ) → commandAt log n ≡ 0x44 → (k ∈ downAfter log (suc n)) ↔ ((k ∈ downAfter log n) ⊎ (k ≡ edgeAt log n))
+  unfolding downAfter
+  down k e = rw (changed-down (commandAt log n) before (edgeAt log n) e) (in-insert before (edgeAt log n) k)
+
+  up : (k : ℕ) → commandAt log n ≡ 0x55 → (k ∈ downAfter log (suc n)) ↔ ((k ∈ downAfter log n) × (k ≡ edgeAt log n → ⊥))
+  unfolding downAfter
+  up k e = rw (changed-up (commandAt log n) before (edgeAt log n) (λ f. omega arith)) (in-drop before (edgeAt log n) k)
+
+  repeated : commandAt log (suc n) ≡ commandAt log n → edgeAt log (suc n) ≡ edgeAt log n → downAfter log (suc (suc n)) ≡ downAfter log (suc n)
+  unfolding downAfter
+  repeated e f =
+      ap₂ (λ c k. changed c (downAfter log (suc n)) k) e f ∙ changed-twice (commandAt log n) before (edgeAt log n)
+
+pub log-played : LogPlayed
+unfolding downAfter
+log-played = record {
+  right = right;
+  rows = λ N stored log lent cuts sides none listed i within.
+      Iff·trans (right N stored log lent none i within .cut)
+      (holds-row N _ (cutRowsAfter N cuts sides) _ (demand-two .list N stored cuts sides listed) (downAfter log (suc i)));
+  no-route = no-route;
+  first = λ log k. not-zero k;
+  down = down;
+  up = up;
+  repeated = repeated;
+}
