@@ -68,6 +68,10 @@ extern "C" {
 /* Bytes that decide any plan: reading more cannot change the answer. */
 #define CUTLIST_DECIDING_BYTES 521
 
+/* The commands of a link log: a cable goes down, a cable comes up. */
+#define CUTLIST_DOWN 0x44
+#define CUTLIST_UP 0x55
+
 /* Bytes of stack that suffice for every call. */
 #define CUTLIST_STACK_BYTES 61440
 
@@ -89,12 +93,17 @@ enum cutlist_refusal {
     CUTLIST_END_OUTSIDE = 9,            /* a cable end not below the point count */
     CUTLIST_BAD_LENGTH = 28,            /* a length that is not of the cable just before it, or of 0 metres */
 
+    /* By what kept the log. */
+    CUTLIST_BAD_EVENT = 16,             /* an event with an unknown command, or half an event */
+    CUTLIST_NO_SUCH_EDGE = 17,          /* an event of a cable not present */
+
     /* By the program that calls. */
     CUTLIST_ROWS_DIFFER = 11,           /* cut rows and side rows differ in number */
     CUTLIST_TOO_MANY_CUTS = 12,         /* more minimal cuts than rows lent */
     CUTLIST_ABSENT_EDGE_NOT_ZERO = 13,  /* an absent cable with an end or metres not 0 */
     CUTLIST_EDGE_NOT_PRESENT = 14,      /* a given set holds a cable not present */
     CUTLIST_BUFFER_TOO_SHORT = 15,      /* the plan needs more bytes than were lent */
+    CUTLIST_TOO_MANY_EVENTS = 18,       /* more whole events than bytes lent */
     CUTLIST_NOT_TRIMMED = 26            /* some point or present cable is not useful */
 };
 
@@ -256,6 +265,36 @@ uint8_t cutlist_list_trimmed(
     size_t *count);
 
 /*
+ * Plays back a link log, to tell after which events the room was silent. An event is two bytes,
+ * CUTLIST_DOWN or CUTLIST_UP and the number of a cable, which is down or up from then on. At first no
+ * cable is down; to take down a cable that is down, or up one that is up, changes nothing. The room
+ * is silent while some minimal cut is wholly down, which is while the cables still up have no route;
+ * in a plan without a route it always is. A log may have any number of events, or none.
+ *
+ * The whole log is checked before the first byte is written. Refusals, in this order: those of
+ * cutlist_fault; 18 if fewer bytes are lent than the log has whole events, whatever these are; then
+ * event by event 16 for an unknown command and 17 for a cable not present; and 16 for half an event
+ * at the end.
+ *
+ *   log, log_length        the log
+ *   silent, silent_length  out: the lent bytes, of which the first belongs to the first event: 1 if
+ *                          the room is silent after it, else 0; bytes past the count hold what they
+ *                          held
+ *   count                  out: how many bytes were written, one for each event; 0 on refusal
+ */
+uint8_t cutlist_replay(
+    uint8_t nodes,
+    uint8_t source,
+    uint8_t sink,
+    uint64_t present,
+    const uint8_t first[CUTLIST_SLOTS],
+    const uint8_t second[CUTLIST_SLOTS],
+    const uint16_t metres[CUTLIST_SLOTS],
+    const uint8_t *log, size_t log_length,
+    uint8_t *silent, size_t silent_length,
+    size_t *count);
+
+/*
  * Counts the rows of a list by width, the number of cables in the cut. It refuses nothing.
  *
  *   cuts, cuts_length  the list; any rows, or none
@@ -365,6 +404,16 @@ static inline uint8_t cutlist_plan_list_trimmed(
     size_t *count)
 {
     return cutlist_list_trimmed(CUTLIST_FIELDS(plan), cuts, cuts_length, sides, sides_length, count);
+}
+
+/* Plays back a link log, as cutlist_replay does. */
+static inline uint8_t cutlist_plan_replay(
+    const struct cutlist_plan *plan,
+    const uint8_t *log, size_t log_length,
+    uint8_t *silent, size_t silent_length,
+    size_t *count)
+{
+    return cutlist_replay(CUTLIST_FIELDS(plan), log, log_length, silent, silent_length, count);
 }
 
 #undef CUTLIST_FIELDS

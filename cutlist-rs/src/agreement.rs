@@ -7,6 +7,7 @@ use std::str::FromStr;
 
 use crate::plan::{Verdict, LONGEST};
 use crate::refusal::Refusal;
+use crate::replay::{DOWN, UP};
 use crate::sets::NodeSet;
 use crate::sys;
 
@@ -188,6 +189,17 @@ fn verdicts_agree() {
     let this = table((0..=u8::MAX).filter_map(verdict));
     assert_eq!(header, library, "header and library");
     assert_eq!(this, library, "crate and library");
+}
+
+/// The commands of a link log, in hexadecimal.
+#[test]
+fn commands_of_a_log_agree() {
+    for (name, command) in [("DOWN", DOWN), ("UP", UP)] {
+        let command = format!("0x{command:02X}");
+        let header = between(HEADER, &format!("#define CUTLIST_{name} "), "\n");
+        let tested = between(REFERENCE, &format!("const {name}: u8 = "), ";");
+        assert_eq!((header, tested), (&command[..], &command[..]), "{name}");
+    }
 }
 
 /// The most points, a bit for each of them in every set of points, and the words of refusal 4.

@@ -7,7 +7,7 @@
 //! loop is in no minimal cut. A cable may have its length in metres, which changes no list.
 //!
 //! ```
-//! use cutlist::{EdgeSet, Plan, Refusal, Verdict};
+//! use cutlist::{EdgeSet, Plan, Refusal, Verdict, DOWN, UP};
 //!
 //! // The bridge: server 0, room 3, and a cable across.
 //! let plan = Plan::new(4, 0, 3)?
@@ -38,6 +38,10 @@
 //! assert_eq!(plan.metres(cut)?, 12);
 //! assert_eq!(plan.unmeasured(cut), EdgeSet(0b10000));
 //!
+//! // A link log: cable 3 goes down, cable 4 goes down, cable 3 comes up. The room was silent in between.
+//! let log = [DOWN, 3, DOWN, 4, UP, 3];
+//! assert_eq!(plan.replay(&log)?, [false, true, false]);
+//!
 //! // A plan travels as bytes, and bytes outside the rules are refused.
 //! let bytes = plan.encode()?;
 //! assert_eq!(Plan::decode(&bytes)?, plan);
@@ -53,6 +57,7 @@ mod agreement;
 mod list;
 mod plan;
 mod refusal;
+mod replay;
 mod sets;
 #[allow(unsafe_code)]
 mod sys;
@@ -60,6 +65,7 @@ mod sys;
 pub use list::{ListError, Mincut, Mincuts};
 pub use plan::{widths, EdgeError, EdgeFault, Plan, Relevant, Verdict};
 pub use refusal::Refusal;
+pub use replay::{DOWN, UP};
 pub use sets::{EdgeSet, Members, NodeSet};
 
 /// The example of the README, compiled.

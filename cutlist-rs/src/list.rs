@@ -57,7 +57,7 @@ impl Mincuts {
         rows: usize,
         call: impl Fn(&mut [EdgeSet], &mut [NodeSet]) -> Result<usize, Refusal>,
     ) -> Result<Mincuts, ListError> {
-        let (mut cuts, mut sides) = (empty_sets(rows)?, empty_sets(rows)?);
+        let (mut cuts, mut sides) = (blank(rows)?, blank(rows)?);
         let count = call(&mut cuts, &mut sides)?;
         cuts.truncate(count);
         sides.truncate(count);
@@ -81,21 +81,22 @@ impl Mincuts {
     }
 }
 
-fn empty_sets<S: Clone + Default>(count: usize) -> Result<Vec<S>, TryReserveError> {
-    let mut sets = Vec::new();
-    sets.try_reserve_exact(count)?;
-    sets.resize(count, S::default());
-    Ok(sets)
+/// So many rows to lend: empty sets, or zeros.
+pub(crate) fn blank<R: Clone + Default>(count: usize) -> Result<Vec<R>, TryReserveError> {
+    let mut rows = Vec::new();
+    rows.try_reserve_exact(count)?;
+    rows.resize(count, R::default());
+    Ok(rows)
 }
 
-/// Why there is no list.
+/// Why there is no list, of minimal cuts or of what the events of a log did.
 #[derive(Clone, Debug, PartialEq, Eq)]
 #[non_exhaustive]
 pub enum ListError {
     /// The call refused: [`Refusal::TooManyCuts`] if the plan has more minimal cuts than were asked
     /// for.
     Refused(Refusal),
-    /// There is no memory for the rows.
+    /// There is no memory for the list.
     Memory(TryReserveError),
 }
 
@@ -115,7 +116,7 @@ impl fmt::Display for ListError {
     fn fmt(&self, f: &mut fmt::Formatter<'_>) -> fmt::Result {
         match self {
             ListError::Refused(refusal) => refusal.fmt(f),
-            ListError::Memory(_) => f.write_str("no memory for the rows of the list"),
+            ListError::Memory(_) => f.write_str("no memory for the list"),
         }
     }
 }

@@ -3,8 +3,9 @@
 use std::error::Error;
 use std::fmt;
 
-use crate::list::{ListError, Mincuts};
+use crate::list::{blank, ListError, Mincuts};
 use crate::refusal::{answer, Refusal};
+use crate::replay;
 use crate::sets::{EdgeSet, NodeSet};
 use crate::sys::{self, Record};
 
@@ -297,6 +298,33 @@ impl Plan {
         let (number, total) = sys::metres(&self.0, set.0);
         answer(number, total)
     }
+
+    /// Plays back a link log, and gives for each event whether the room is silent after it. An event
+    /// is two bytes, [`DOWN`](crate::DOWN) or [`UP`](crate::UP) and the number of a cable, which is
+    /// down or up from then on. At first every cable is up; to take down a cable that is down, or up
+    /// one that is up, changes nothing. The room is silent while some minimal cut is wholly down,
+    /// which is while the cables still up have no route.
+    ///
+    /// The first fault in a log refuses the whole of it: [`Refusal::BadEvent`] or
+    /// [`Refusal::NoSuchEdge`]. If there is no memory for the answer, two bytes for each event while
+    /// it is made, that is an error too.
+    pub fn replay(&self, log: &[u8]) -> Result<Vec<bool>, ListError> {
+        let mut bytes = blank(log.len() / 2)?;
+        self.replay_into(log, &mut bytes)?;
+        let mut silent = Vec::new();
+        silent.try_reserve_exact(bytes.len())?;
+        silent.extend(bytes.iter().map(|&byte| byte == 1));
+        Ok(silent)
+    }
+
+    /// Plays back a link log into lent bytes, as [`Plan::replay`] does: 1 if the room is silent
+    /// after the event, else 0. Gives how many events there are. Later bytes, and all of them on
+    /// refusal, hold what they held. Fewer bytes than whole events are
+    /// [`Refusal::TooManyEvents`], before any fault in the log.
+    pub fn replay_into(&self, log: &[u8], silent: &mut [u8]) -> Result<usize, Refusal> {
+        let (number, count) = sys::replay(&self.0, log, silent);
+        answer(number, count).and_then(|count| replay::whole(log, silent, count))
+    }
 }
 
 /// How many of the cuts have 0, 1 .. 64 cables.
@@ -309,6 +337,7 @@ mod tests {
     use std::time::{Duration, Instant};
 
     use super::*;
+    use crate::{DOWN, UP};
 
     const BRIDGE: [u8; 26] = [
         0x50, 4, 0x53, 0, 3, 0x43, 0, 0, 1, 0x43, 1, 0, 2, 0x43, 2, 1, 2, 0x43, 3, 1, 3, 0x43, 4,
@@ -734,6 +763,85 @@ mod tests {
         for number in (0..=u8::MAX).filter(|number| !(1..=3).contains(number)) {
             assert_eq!(Verdict::from_number(number), Err(Refusal::Unknown(number)));
         }
+    }
+
+    /// Cables 0 and 1 go down, the second of them twice, and come up again.
+    const LOG: [u8; 14] = [DOWN, 0, DOWN, 1, DOWN, 1, UP, 0, UP, 0, DOWN, 4, UP, 1];
+
+    #[test]
+    fn a_log_is_played_back() {
+        let silent = vec![false, true, true, false, false, false, false];
+        assert_eq!(bridge().replay(&LOG), Ok(silent.clone()));
+        assert_eq!(measured_bridge().replay(&LOG), Ok(silent));
+        assert_eq!(bridge().replay(&[]), Ok(vec![]));
+        // A loop is no way round, and takes nothing away.
+        let looped = bridge().with_edge(63, 0, 0).expect("accepted");
+        let log = [DOWN, 63, DOWN, 3, DOWN, 4, UP, 63];
+        assert_eq!(looped.replay(&log), Ok(vec![false, false, true, true]));
+        // Without a route the room is always silent.
+        let none = hall(3, 2, &[(0, 1)]);
+        assert_eq!(none.replay(&[DOWN, 0, UP, 0]), Ok(vec![true, true]));
+    }
+
+    /// One event leads from each set of cables down to the next, until all sets were met.
+    #[test]
+    fn a_room_is_silent_while_the_cables_down_are_a_cut() {
+        let plan = two_hubs(4);
+        let (mut log, mut expected) = (Vec::new(), Vec::new());
+        let mut down = EdgeSet(0);
+        for event in 1..1_u32 << plan.present().len() {
+            let edge = event.trailing_zeros() as u8;
+            down.0 ^= 1 << edge;
+            log.extend([if down.contains(edge) { DOWN } else { UP }, edge]);
+            let verdict = plan.classify(down).expect("present");
+            expected.push(verdict != Verdict::NotCut);
+        }
+        assert!(expected.contains(&true) && expected.contains(&false));
+        assert_eq!(plan.replay(&log), Ok(expected));
+    }
+
+    #[test]
+    fn a_fault_in_a_log_refuses_the_whole_of_it() {
+        for (events, refusal) in [
+            (&[0x45, 0][..], Refusal::BadEvent),
+            (&[0, 0], Refusal::BadEvent),
+            (&[DOWN], Refusal::BadEvent),
+            (&[7], Refusal::BadEvent),
+            (&[DOWN, 5], Refusal::NoSuchEdge),
+            (&[UP, 5], Refusal::NoSuchEdge),
+            (&[UP, 64], Refusal::NoSuchEdge),
+            (&[DOWN, 255], Refusal::NoSuchEdge),
+            // The first fault decides, and of an event its command.
+            (&[0, 255], Refusal::BadEvent),
+            (&[DOWN, 5, 0, 0], Refusal::NoSuchEdge),
+            (&[0, 0, DOWN, 5], Refusal::BadEvent),
+            (&[DOWN, 5, DOWN], Refusal::NoSuchEdge),
+        ] {
+            let log = [&LOG[..], events].concat();
+            assert_eq!(bridge().replay(&log), Err(ListError::Refused(refusal)));
+            assert_eq!(bridge().replay(events), Err(ListError::Refused(refusal)));
+        }
+    }
+
+    #[test]
+    fn lent_bytes_past_the_events_hold_what_they_held() {
+        let mut lent = [9; 9];
+        assert_eq!(bridge().replay_into(&LOG, &mut lent), Ok(7));
+        assert_eq!(lent, [0, 1, 1, 0, 0, 0, 0, 9, 9]);
+        let mut lent = [9; 7];
+        let short = bridge().replay_into(&LOG, &mut lent[..6]);
+        assert_eq!(short, Err(Refusal::TooManyEvents));
+        // 18 before 16 and 17, and half an event needs no byte.
+        let faulty = [DOWN, 5, 0, 0];
+        let refused = |log: &[u8], lent: &mut [u8]| bridge().replay_into(log, lent).err();
+        assert_eq!(
+            refused(&faulty, &mut lent[..1]),
+            Some(Refusal::TooManyEvents)
+        );
+        assert_eq!(refused(&faulty, &mut lent), Some(Refusal::NoSuchEdge));
+        assert_eq!(refused(&[DOWN], &mut []), Some(Refusal::BadEvent));
+        assert_eq!(lent, [9; 7]);
+        assert_eq!(bridge().replay_into(&[], &mut []), Ok(0));
     }
 
     #[test]

@@ -63,6 +63,9 @@ refusals! {
     13 AbsentEdgeNotZero "an absent cable with an end or metres not 0"
     14 EdgeNotPresent "a given set holds a cable not present"
     15 BufferTooShort "the plan needs more bytes than were lent"
+    16 BadEvent "an event with an unknown command, or half an event"
+    17 NoSuchEdge "an event of a cable not present"
+    18 TooManyEvents "more whole events than bytes lent"
     26 NotTrimmed "some point or present cable is not useful"
     28 BadLength "a length that is not of the cable just before it, or of 0 metres"
 }

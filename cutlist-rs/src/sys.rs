@@ -116,6 +116,13 @@ on_a_record! {
         sides_length: usize,
         count: *mut usize
     );
+    fn cutlist_replay(
+        log: *const u8,
+        log_length: usize,
+        silent: *mut u8,
+        silent_length: usize,
+        count: *mut usize
+    );
 }
 
 /// A call that lists into lent rows: each pointer must be valid for its type and length, and no two
@@ -201,6 +208,23 @@ fn list_by(call: ListCall, r: &Record, cuts: &mut [EdgeSet], sides: &mut [NodeSe
             cuts.len(),
             sides.as_mut_ptr().cast(),
             sides.len(),
+            &mut count,
+        )
+    };
+    (refusal, count)
+}
+
+/// Plays back a link log into lent bytes: the count.
+pub fn replay(r: &Record, log: &[u8], silent: &mut [u8]) -> (u8, usize) {
+    let mut count = 0;
+    // SAFETY: each pointer is valid for its type and length, and no two overlap.
+    let refusal = unsafe {
+        cutlist_replay(
+            r,
+            log.as_ptr(),
+            log.len(),
+            silent.as_mut_ptr(),
+            silent.len(),
             &mut count,
         )
     };

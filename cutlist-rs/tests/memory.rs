@@ -1,12 +1,10 @@
-//! A list that memory cannot hold is an error and no abort: the test runs itself in a process that
+//! A list that memory cannot hold is an error and no abort: each test runs itself in a process that
 //! may have 64 MiB.
 
 use std::env;
 use std::process::Command;
 
-use cutlist::{ListError, Plan};
-
-const NAME: &str = "a_list_that_memory_cannot_hold_is_an_error";
+use cutlist::{ListError, Plan, DOWN};
 
 /// Set in the process that has little memory.
 const LITTLE: &str = "CUTLIST_LITTLE_MEMORY";
@@ -21,20 +19,28 @@ fn two_hubs() -> Plan {
     })
 }
 
+/// Whether this process has little memory. If not, runs the test of this name in one that has.
+fn has_little_memory(name: &str) -> bool {
+    if env::var_os(LITTLE).is_some() {
+        return true;
+    }
+    let output = Command::new("sh")
+        .args(["-c", r#"ulimit -v 65536; exec "$0" "$@""#])
+        .arg(env::current_exe().expect("this program"))
+        .args(["--exact", name])
+        .env(LITTLE, "")
+        .output()
+        .expect("the shell");
+    let printed = String::from_utf8_lossy(&output.stdout);
+    let complaints = String::from_utf8_lossy(&output.stderr);
+    assert!(output.status.success(), "{printed}{complaints}");
+    assert!(printed.contains("1 passed"), "{printed}");
+    false
+}
+
 #[test]
 fn a_list_that_memory_cannot_hold_is_an_error() {
-    if env::var_os(LITTLE).is_none() {
-        let output = Command::new("sh")
-            .args(["-c", r#"ulimit -v 65536; exec "$0" "$@""#])
-            .arg(env::current_exe().expect("this program"))
-            .args(["--exact", NAME])
-            .env(LITTLE, "")
-            .output()
-            .expect("the shell");
-        let printed = String::from_utf8_lossy(&output.stdout);
-        let complaints = String::from_utf8_lossy(&output.stderr);
-        assert!(output.status.success(), "{printed}{complaints}");
-        assert!(printed.contains("1 passed"), "{printed}");
+    if !has_little_memory("a_list_that_memory_cannot_hold_is_an_error") {
         return;
     }
     let error = two_hubs().mincuts(usize::MAX).expect_err("too many");
@@ -42,4 +48,21 @@ fn a_list_that_memory_cannot_hold_is_an_error() {
     // What was asked for has been given back.
     let line = Plan::new(2, 0, 1).expect("accepted");
     assert_eq!(line.mincuts(usize::MAX).expect("listed").iter().len(), 1);
+}
+
+/// A log of 48 MiB leaves no memory for a byte for each event, and one of 32 MiB none for two.
+#[test]
+fn a_log_that_memory_cannot_hold_besides_is_an_error() {
+    if !has_little_memory("a_log_that_memory_cannot_hold_besides_is_an_error") {
+        return;
+    }
+    let plan = Plan::new(2, 0, 1).expect("accepted");
+    let plan = plan.with_edge(0, 0, 1).expect("accepted");
+    let log = |length: usize| [DOWN, 0].repeat(length / 2);
+    for length in [48 << 20, 32 << 20] {
+        let error = plan.replay(&log(length)).expect_err("too long");
+        assert!(matches!(error, ListError::Memory(_)), "{error:?}");
+    }
+    let silent = plan.replay(&log(8 << 20)).expect("played back");
+    assert_eq!(silent, vec![true; 4 << 20]);
 }

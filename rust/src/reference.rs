@@ -9,6 +9,10 @@ pub const LONGEST_PLAN: usize = 518;
 /// So many bytes decide any plan.
 pub const DECIDING: usize = 521;
 
+/// The commands of a link log.
+pub const DOWN: u8 = 0x44;
+pub const UP: u8 = 0x55;
+
 /// The refusals, by the library's names and the paper's numbers.
 #[derive(Clone, Copy, Debug, PartialEq, Eq)]
 pub enum Refusal {
@@ -26,6 +30,9 @@ pub enum Refusal {
     AbsentEdgeNotZero = 13,
     EdgeNotPresent = 14,
     BufferTooShort = 15,
+    BadEvent = 16,
+    NoSuchEdge = 17,
+    TooManyEvents = 18,
     NotTrimmed = 26,
     BadLength = 28,
 }
