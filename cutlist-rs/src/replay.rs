@@ -11,7 +11,7 @@ pub const UP: u8 = 0x55;
 /// The count of an answer to a log, if the answer is whole: a byte for each event, which is 1 or 0.
 /// Of anything else the crate does not know what it says.
 pub(crate) fn whole(log: &[u8], silent: &[u8], count: usize) -> Result<usize, Refusal> {
-    let each = log.len() % 2 == 0 && count == log.len() / 2;
+    let each = log.len().is_multiple_of(2) && count == log.len() / 2;
     let Some(bytes) = silent.get(..count).filter(|_| each) else {
         return Err(Refusal::Unknown(0));
     };

@@ -85,11 +85,16 @@ pub fn verdict(minpaths: &[u64], set: u64) -> Verdict {
 pub fn verdict_by_cuts(mincuts: &[u64], set: u64) -> Verdict {
     if mincuts.contains(&set) {
         Verdict::Minimal
-    } else if mincuts.iter().any(|cut| cut & !set == 0) {
+    } else if holds_one(mincuts, set) {
         Verdict::NotMinimal
     } else {
         Verdict::NotCut
     }
+}
+
+/// Whether all cables of some minimal cut are in the set.
+pub fn holds_one(mincuts: &[u64], set: u64) -> bool {
+    mincuts.iter().any(|cut| cut & !set == 0)
 }
 
 /// Every set of present cables, rising, with its verdict: all its proper subsets were looked at.

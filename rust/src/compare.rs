@@ -110,6 +110,38 @@ pub fn metres(record: &Record, set: u64) -> (u8, u32) {
     answer
 }
 
+/// Plays back a log over what the bytes held; `is_cut` tells of a set of present cables whether no
+/// route is left without it. What the bytes hold afterwards is fixed to the last one; ordinary Rust
+/// writes the same. Gives the refusal number and what was written.
+pub fn replay(
+    record: &Record,
+    log: &[u8],
+    before: &[u8],
+    is_cut: impl Fn(u64) -> bool,
+) -> (u8, Vec<u8>) {
+    let expected = reference::replay(record, log, before.len());
+    let number = reference::number(&expected);
+    let downs = expected.unwrap_or_default();
+    let written: Vec<u8> = downs.into_iter().map(|down| is_cut(down).into()).collect();
+    let count = written.len();
+
+    let mut silent = before.to_vec();
+    let answer = sys::replay(record, log, &mut silent);
+    assert_eq!(answer, (number, count), "log {log:02X?}, record {record:?}");
+    assert!(
+        silent[..count] == written && silent[count..] == before[count..],
+        "log {log:02X?}, record {record:?}: {before:?} became {silent:?}"
+    );
+    let mut plain = before.to_vec();
+    let answer = match ordinary::replay(record, log, &mut plain) {
+        Ok(count) => (0, count),
+        Err(refusal) => (refusal, 0),
+    };
+    assert_eq!(answer, (number, count), "log {log:02X?}, record {record:?}");
+    assert!(plain == silent, "log {log:02X?}, record {record:?}");
+    (number, written)
+}
+
 /// Lists a record over what the rows held; if the record has no fault, `rows` is the whole list, or
 /// `None` for a list longer than the rows lent. What the rows hold afterwards is fixed to the last
 /// word. Gives the refusal number.

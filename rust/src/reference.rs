@@ -1,4 +1,4 @@
-//! The reader, the record test and the writer, straight from the paper.
+//! The reader, the record test, the writer, and what a link log says, straight from the paper.
 
 use crate::record::{Record, MOST_NODES, SLOTS};
 use Refusal::*;
@@ -123,6 +123,28 @@ pub fn encode(record: &Record, room: usize) -> Result<Vec<u8>, Refusal> {
     plan.push(0x45);
     refuse_unless(plan.len() <= room, BufferTooShort)?;
     Ok(plan)
+}
+
+/// The sets of cables that are down after each event of a log, where `room` bytes are lent.
+pub fn replay(record: &Record, log: &[u8], room: usize) -> Result<Vec<u64>, Refusal> {
+    fault(record)?;
+    refuse_unless(log.len() / 2 <= room, TooManyEvents)?;
+    let mut down = 0;
+    let mut after = Vec::new();
+    for event in log.chunks(2) {
+        let &[command, edge] = event else {
+            return Err(BadEvent);
+        };
+        refuse_unless(command == DOWN || command == UP, BadEvent)?;
+        let edge = usize::from(edge);
+        refuse_unless(edge < SLOTS && record.holds(edge), NoSuchEdge)?;
+        match command {
+            DOWN => down |= 1 << edge,
+            _ => down &= !(1 << edge),
+        }
+        after.push(down);
+    }
+    Ok(after)
 }
 
 /// The part of the plan that is still to be read.

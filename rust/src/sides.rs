@@ -149,14 +149,18 @@ pub fn list_by_growth(record: &Record, most: usize) -> Option<Vec<Row>> {
 /// Judges a set of present cables: by whether server and room come together without them, and
 /// without all but one of them.
 pub fn verdict(record: &Record, set: u64) -> Verdict {
-    let is_cut = |set: u64| !together(record, record.present & !set);
-    if !is_cut(set) {
+    if !is_cut(record, set) {
         Verdict::NotCut
-    } else if members(set).any(|edge| is_cut(set & !(1 << edge))) {
+    } else if members(set).any(|edge| is_cut(record, set & !(1 << edge))) {
         Verdict::NotMinimal
     } else {
         Verdict::Minimal
     }
+}
+
+/// Whether no route is left without a set of present cables.
+pub fn is_cut(record: &Record, set: u64) -> bool {
+    !together(record, record.present & !set)
 }
 
 /// Whether these cables bring server and room together: each point is a group of its own at first,

@@ -146,6 +146,13 @@ pub mod capi {
             side_rows: usize,
             count: *mut usize
         );
+        fn cutlist_replay(
+            log: *const u8,
+            log_length: usize,
+            silent: *mut u8,
+            silent_length: usize,
+            count: *mut usize
+        );
     }
 }
 
@@ -383,6 +390,46 @@ fn list_bare_by(
         )
     };
 
+    (refusal, count)
+}
+
+/// Plays back a link log into lent bytes: the refusal number and the count.
+pub fn replay(record: &Record, log: &[u8], silent: &mut [u8]) -> (u8, usize) {
+    let mut lent_log = Rows::new(log);
+    let mut lent_silent = Rows::new(silent);
+    let mut count = Guarded::new(usize::from_ne_bytes([STALE; size_of::<usize>()]));
+
+    // SAFETY: each pointer is valid for its type and length, and no two overlap.
+    let refusal = on_a_copy(record, |r| unsafe {
+        capi::cutlist_replay(
+            r,
+            lent_log.place(),
+            log.len(),
+            lent_silent.place(),
+            silent.len(),
+            count.place(),
+        )
+    });
+
+    assert!(lent_log.take() == log, "a call wrote into the log");
+    silent.copy_from_slice(lent_silent.take());
+    (refusal, count.take())
+}
+
+/// The same straight on the bytes, with nothing around the call: for measuring.
+pub fn replay_bare(record: &Record, log: &[u8], silent: &mut [u8]) -> (u8, usize) {
+    let mut count = 0;
+    // SAFETY: each pointer is valid for its type and length, and no two overlap.
+    let refusal = unsafe {
+        capi::cutlist_replay(
+            record,
+            log.as_ptr(),
+            log.len(),
+            silent.as_mut_ptr(),
+            silent.len(),
+            &mut count,
+        )
+    };
     (refusal, count)
 }
 
