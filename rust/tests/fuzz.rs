@@ -9,7 +9,7 @@ use std::process::Command;
 
 use cutlist_tests::fuzz::case::{self, Case, Size, FIELDS, FITTED, HEAD, RAW};
 use cutlist_tests::fuzz::counts::{Counts, FAR};
-use cutlist_tests::fuzz::digest::{digest, trimmed_digest};
+use cutlist_tests::fuzz::digest::{digest, replay_digest, trimmed_digest};
 use cutlist_tests::fuzz::search::{panic_of, search};
 use cutlist_tests::fuzz::shrinking::shrink;
 use cutlist_tests::fuzz::{making, questions};
@@ -135,6 +135,40 @@ fn a_wrong_trimmed_plan_is_found_and_shrunk() {
     assert!(record.nodes <= 5, "{record:?}");
 }
 
+/// What the library writes for the whole events of a case's log, if they are not refused.
+fn played(case: &Case) -> Vec<u8> {
+    let events = case.log.len() / 2;
+    let mut silent = vec![7; events];
+    let (_, count) = sys::replay(&case.record, &case.log[..2 * events], &mut silent);
+    silent.truncate(count);
+    silent
+}
+
+/// A wrong claim about logs: that no room comes back.
+fn ask_with_a_wrong_log(bytes: &[u8], counts: &mut Counts) {
+    questions::ask(bytes, counts);
+    let silent = played(&Case::of(bytes));
+    let came_back = silent.windows(2).any(|pair| pair == [1, 0]);
+    assert!(!came_back, "a room came back");
+}
+
+#[test]
+fn a_wrong_log_is_found_and_shrunk() {
+    let found = search(cases(94, 1_000), ask_with_a_wrong_log).expect_err("a room that comes back");
+    assert_eq!(found.message, "a room came back");
+    let wrong =
+        |bytes: &[u8]| panic_of(|| ask_with_a_wrong_log(bytes, &mut Counts::default())).is_some();
+    let shrunk = shrink(&found.bytes, 10_000, wrong);
+    assert!(wrong(&shrunk));
+    // Nothing is left but one cable, and with the last event the room comes back.
+    let case = Case::of(&shrunk);
+    assert_eq!(case.record.present.count_ones(), 1);
+    let silent = played(&case);
+    let came_back = silent.windows(2).position(|pair| pair == [1, 0]);
+    assert_eq!(came_back, Some(silent.len() - 2), "{:02X?}", case.log);
+    assert!(silent.len() <= 4, "{:02X?}", case.log);
+}
+
 #[test]
 fn shrinking_ends_after_so_many_tries() {
     let tries = Cell::new(0);
@@ -185,6 +219,7 @@ fn every_byte_string_is_a_case() {
     assert!(counts.metres.total() >= counts.cases);
     assert!(counts.list.total() >= counts.cases);
     assert_eq!(counts.list_trimmed.total(), counts.list.total());
+    assert!(counts.replay.total() >= 3 * counts.cases);
     assert!(counts.widths >= counts.cases);
 }
 
@@ -248,6 +283,25 @@ fn the_digest_of_trimmed_plans() {
     // Metres change nothing.
     let measured = bridge.clone().with_metres(4, 300);
     assert_eq!(digest_of(&measured), digest_of(&bridge));
+}
+
+/// What is written for logs has a number of its own, which the log changes and metres do not.
+#[test]
+fn the_digest_of_logs() {
+    let bridge = halls::bridge();
+    let digest_of = |hall: &Record, length: u8| {
+        let mut bytes = with_head(FITTED, &plans::bytes(hall));
+        bytes[14] = length;
+        replay_digest([bytes])
+    };
+    let other = bridge.clone().with(63, 0, 3);
+    let mut numbers = vec![digest_of(&other, 100)];
+    numbers.extend((0..=100).map(|length| digest_of(&bridge, length)));
+    numbers.sort_unstable();
+    numbers.dedup();
+    assert_eq!(numbers.len(), 102);
+    let measured = bridge.clone().with_metres(4, 300);
+    assert_eq!(digest_of(&measured, 100), digest_of(&bridge, 100));
 }
 
 /// The digest is of the totals too, and of every length that is read.
@@ -351,6 +405,16 @@ fn cases_of_every_kind_are_made() {
             ("ample rows", case.rows == Size::Ample(0)),
             ("more side rows", case.more_sides > 0),
             ("fewer side rows", case.more_sides < 0),
+            (
+                "a long log of whole events",
+                fit && played(&case).len() > 100,
+            ),
+            (
+                "a log that silences the room and brings it back",
+                fit && played(&case).windows(2).any(|pair| pair == [1, 0]),
+            ),
+            ("half an event", fit && case.log.len() % 2 == 1),
+            ("no event", case.log.len() < 2),
             ("exactly the bytes needed", case.buffer == Size::Needed(0)),
             ("one byte less", case.buffer == Size::Needed(-1)),
         ] {
@@ -397,6 +461,18 @@ fn settings_mean_what_they_say() {
     assert_eq!(case.record, halls::bridge());
     assert_eq!((case.rows, case.more_sides), (Size::Any(66), 31));
     assert_eq!(case.set, 1 << 63 | 0x201);
+    // The set's lowest byte is the length of the log, and the others say what stands in it.
+    assert_eq!(case.log.len(), 1);
+    bytes[14] = 40;
+    let log = Case::of(&bytes).log;
+    assert_eq!(
+        reference::replay(&halls::bridge(), &log, 20).map(|downs| downs.len()),
+        Ok(20)
+    );
+    bytes[14] = 39;
+    assert_eq!(Case::of(&bytes).log, log[..39]);
+    bytes[15] ^= 1;
+    assert_ne!(Case::of(&bytes).log, log[..39]);
 }
 
 /// Any bytes make a fit record, and a plan without fault makes its own; any bytes are a raw record.
@@ -479,16 +555,23 @@ fn the_command() {
     assert_eq!((code, text), (Some(0), format!("{trimmed:016x}\n")));
     assert_ne!(trimmed, number);
 
-    let file = Path::new(env!("CARGO_TARGET_TMPDIR")).join("fuzz-replay");
+    let (code, text) = run(&["--digest", "--replay", "--seed", "88", "--cases", "7"]);
+    let replay = replay_digest(cases(88, 7).map(|(_, bytes)| bytes));
+    assert_eq!((code, text), (Some(0), format!("{replay:016x}\n")));
+    assert_ne!(replay, number);
+
+    let file = Path::new(env!("CARGO_TARGET_TMPDIR")).join("fuzz-file");
     fs::write(&file, making::bytes(88, 7)).expect("a file");
-    let (code, text) = run(&["--replay", file.to_str().expect("text")]);
+    let (code, text) = run(&["--file", file.to_str().expect("text")]);
     assert_eq!(code, Some(0), "{text}");
     assert!(text.ends_with("no difference\n"), "{text}");
 
     for wrong in [
-        &["--replay", "/no/such/file"][..],
+        &["--file", "/no/such/file"][..],
         &["--cases"],
         &["--trimmed"],
+        &["--replay"],
+        &["--digest", "--trimmed", "--replay"],
         &["--without-loops"],
         &["--without-lengths"],
         &["-x"],

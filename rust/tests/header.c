@@ -23,12 +23,18 @@ static const uint8_t bridge[26] = {
 /* Two points joined by cable 5 of 260 metres. */
 static const uint8_t measured[14] = {0x50, 2, 0x53, 0, 1, 0x43, 5, 0, 1, 0x4D, 5, 1, 4, 0x45};
 
+/* And an event of a cable that the bridge has not. */
+static const uint8_t link_log[10] = {
+    CUTLIST_DOWN, 0, CUTLIST_DOWN, 1, CUTLIST_DOWN, 1, CUTLIST_UP, 0, CUTLIST_UP, 5,
+};
+static const uint8_t silent_after[5] = {0, 1, 1, 0, 9};
+
 int main(void)
 {
     static const uint64_t cuts_listed[5] = {3, 14, 21, 24, 7};
     static const uint64_t sides_listed[5] = {1, 3, 5, 7, 9};
     struct cutlist_plan plan, zero;
-    uint8_t bytes[27], verdict;
+    uint8_t bytes[27], silent[5], verdict;
     uint32_t total;
     uint64_t cuts[5] = {7, 7, 7, 7, 7}, edges;
     uint64_t sides[5] = {9, 9, 9, 9, 9}, nodes;
@@ -79,6 +85,16 @@ int main(void)
     CHECK(cutlist_plan_list_trimmed(&plan, cuts, 0, sides, 0, &count) == CUTLIST_NOT_TRIMMED && count == 0);
     CHECK(memcmp(cuts, cuts_listed, sizeof cuts) == 0);
     plan.nodes = 4;
+
+    /* A link log: cables 0 and 1 go down, the second of them twice, and cable 0 comes up. */
+    memset(silent, 9, sizeof silent);
+    CHECK(cutlist_plan_replay(&plan, link_log, 8, silent, 3, &count) == CUTLIST_TOO_MANY_EVENTS && count == 0);
+    CHECK(cutlist_plan_replay(&plan, link_log, 7, silent, 5, &count) == CUTLIST_BAD_EVENT && count == 0);
+    CHECK(cutlist_plan_replay(&plan, link_log, 10, silent, 5, &count) == CUTLIST_NO_SUCH_EDGE && count == 0);
+    CHECK(silent[0] == 9 && silent[4] == 9);
+    CHECK(cutlist_plan_replay(&plan, link_log, 8, silent, 5, &count) == CUTLIST_ACCEPTED && count == 4);
+    CHECK(memcmp(silent, silent_after, sizeof silent) == 0);
+    CHECK(cutlist_plan_replay(&plan, link_log, 0, silent, 0, &count) == CUTLIST_ACCEPTED && count == 0);
 
     /* Lengths: in the struct, in bytes, and of sets. */
     plan.metres[0] = 7;

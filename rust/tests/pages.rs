@@ -9,8 +9,10 @@ use std::slice;
 use cutlist_tests::answers::{Nodes, Part};
 use cutlist_tests::halls;
 use cutlist_tests::lengths;
+use cutlist_tests::logs;
 use cutlist_tests::plans;
 use cutlist_tests::record::{Record, SLOTS};
+use cutlist_tests::reference::{DOWN, UP};
 use cutlist_tests::rng::Rng;
 use cutlist_tests::sides;
 use cutlist_tests::sys;
@@ -199,6 +201,36 @@ fn assert_same_list(record: &Record, arrays: &Arrays, trimmed: bool, at: At) {
     }
 }
 
+/// What is written for a log is what is written elsewhere, with one byte less lent than it needs, with
+/// as many and with one more. Gives the refusal numbers.
+fn assert_same_replay(record: &Record, arrays: &Arrays, log: &[u8], at: At) -> Vec<u8> {
+    let bytes = Lent::new(log, at);
+    let count = Lent::new(&[7usize], at);
+    let whole = log.len() / 2;
+    let mut numbers = Vec::new();
+    for lent in whole.saturating_sub(1)..=whole + 1 {
+        let mut silent = vec![7; lent];
+        let answer = sys::replay(record, log, &mut silent);
+        let lent_silent = Lent::new(&vec![7u8; lent], at);
+        let (place, out) = (lent_silent.place, count.place);
+        let refusal = call!(
+            cutlist_replay,
+            record,
+            arrays,
+            bytes.place,
+            log.len(),
+            place,
+            lent,
+            out
+        );
+        assert_eq!((refusal, count.values()[0]), answer, "{record:?}");
+        assert_eq!(lent_silent.values(), silent);
+        numbers.push(refusal);
+    }
+    assert_eq!(bytes.values(), log);
+    numbers
+}
+
 /// Every call on the record, on its bytes and on its list gives what it gives elsewhere.
 fn assert_same(record: &Record, set: u64, at: At) -> u8 {
     let arrays = Arrays::of(record, at);
@@ -224,6 +256,11 @@ fn assert_same(record: &Record, set: u64, at: At) -> u8 {
     for trimmed in [false, true] {
         assert_same_list(record, &arrays, trimmed, at);
     }
+
+    let mut rng = Rng::new(set);
+    let length = rng.below(200);
+    let log = logs::log(&mut rng, record, length);
+    assert_same_replay(record, &arrays, &log, at);
 
     let count = Lent::new(&[7usize], at);
     let mut plan = [7; 600];
@@ -310,4 +347,45 @@ fn the_reader_does_not_look_past_the_last_byte() {
         }
     }
     assert!(read > 1_500, "{read}");
+}
+
+/// Where the last page ends: every beginning of logs, the empty one and one byte among them, whole and
+/// damaged; and logs that are longer than a page.
+#[test]
+fn no_log_is_looked_past() {
+    let mut rng = Rng::new(113);
+    let mut tally = Tally::default();
+    for record in [
+        halls::bridge(),
+        halls::two_points(64),
+        halls::two_points(0),
+        plans::record(&mut rng),
+    ] {
+        for at in [At::Start, At::End] {
+            let arrays = Arrays::of(&record, at);
+            let mut played = |log: &[u8]| {
+                for number in assert_same_replay(&record, &arrays, log, at) {
+                    tally.count(number);
+                }
+            };
+            for half in [DOWN, UP, 0, 5, 0xFF] {
+                played(&[half]);
+            }
+            let log = logs::log(&mut rng, &record, 60);
+            for end in 0..=log.len() {
+                played(&log[..end]);
+            }
+            for _ in 0..100 {
+                let mut damaged = log.clone();
+                logs::damage(&mut rng, &record, &mut damaged);
+                played(&damaged);
+            }
+            for length in [PAGE - 1, PAGE, PAGE + 1, 2 * PAGE, 2 * PAGE + 2] {
+                let log = logs::log(&mut rng, &record, length);
+                played(&log);
+            }
+        }
+    }
+    tally.assert_only(&[0, 16, 17, 18]);
+    tally.assert_each(&[0, 16, 17, 18], 200);
 }

@@ -19,6 +19,7 @@ use std::process::{Command, Stdio};
 use cutlist_tests::answers::Nodes;
 use cutlist_tests::halls;
 use cutlist_tests::lengths;
+use cutlist_tests::logs;
 use cutlist_tests::plans;
 use cutlist_tests::record::Record;
 use cutlist_tests::reference;
@@ -98,11 +99,20 @@ fn list(call: ListCall, r: &Record, rows: &mut Rows, lent: usize) -> (usize, u8)
     (stack, refusal)
 }
 
+/// The stack of playing back a log, and its refusal number.
+fn replay(r: &Record, log: &[u8], silent: &mut [u8]) -> (usize, u8) {
+    let mut refusal = 0;
+    let stack = stack_of(|| refusal = sys::replay_bare(r, log, silent).0);
+    (stack, refusal)
+}
+
 /// The most stack that one of the other calls on a record takes, and the reader on its bytes.
 fn others(r: &Record) -> usize {
     let mut plan = [0; reference::LONGEST_PLAN];
     let (mut count, mut verdict, mut nodes, mut edges, mut total) = (0, 0, 0, 0, 0);
     let mut read = Record::default();
+    let mut silent = [0; 40];
+    let log = logs::log(&mut Rng::new(r.present), r, 80);
     // SAFETY: each pointer is valid for its type and length, and no two overlap.
     let stacks = unsafe {
         [
@@ -124,9 +134,10 @@ fn others(r: &Record) -> usize {
             stack_of(|| {
                 sys::decode_bare(&plan[..count], &mut read);
             }),
+            replay(r, &log, &mut silent).0,
         ]
     };
-    stacks.into_iter().max().expect("six calls")
+    stacks.into_iter().max().expect("seven calls")
 }
 
 fn widths(cuts: &[u64]) -> usize {
@@ -235,6 +246,25 @@ fn no_call_takes_more_than_the_header_says() {
     for cuts in [&rows.cuts[..0], &rows.cuts] {
         let stack = widths(cuts);
         assert!(stack < others_most, "{stack} bytes");
+    }
+}
+
+/// However long a log is, and wherever it is faulty, it takes no more stack than a short one.
+#[test]
+fn a_long_log_takes_no_more_stack_than_a_short_one() {
+    let mut rng = Rng::new(72);
+    for hall in [halls::bridge(), halls::line(64, 1), halls::complete(11)] {
+        let log = logs::log_of(&mut rng, hall.present, 20_000_000);
+        let mut silent = vec![7; 10_000_000];
+        let (most, refusal) = replay(&hall, &log[..2_000], &mut silent);
+        assert_eq!(refusal, 0);
+        let (stack, refusal) = replay(&hall, &log, &mut silent);
+        assert_eq!(refusal, 0);
+        assert!(stack <= most, "{stack} bytes, not {most}");
+        assert!(silent.iter().all(|&byte| byte < 2));
+        let (stack, refusal) = replay(&hall, &log[..log.len() - 1], &mut silent);
+        assert_eq!(refusal, 16);
+        assert!(stack <= most, "{stack} bytes, not {most}");
     }
 }
 

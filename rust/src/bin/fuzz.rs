@@ -7,11 +7,12 @@
 //!   --seed N       the seed; otherwise one by the clock, and printed
 //!   --case I       case I of the seed alone
 //!   --each         names each case before it is tried, so that a crash shows its case
-//!   --replay FILE  the bytes of a file alone
+//!   --file FILE    the bytes of a file alone
 //!   --smoke        a fixed seed and number of cases, which must meet every kind of answer
 //!   --digest       one number for all that the library answers on the cases of the smoke run, or on
-//!                  those of --seed and --cases, but for the lists of trimmed plans
+//!                  those of --seed and --cases, but for the lists of trimmed plans and for logs
 //!   --trimmed      with --digest: the number of these lists alone
+//!   --replay       with --digest: the number of what is written for logs alone
 //!   --without-loops
 //!                  with --digest: leaves out the cases in which a cable has both ends at one point, so
 //!                  that a library that refuses such cables gives the same number
@@ -27,7 +28,7 @@ use std::time::{Duration, Instant, SystemTime, UNIX_EPOCH};
 
 use cutlist_tests::fuzz::case::Case;
 use cutlist_tests::fuzz::counts::Counts;
-use cutlist_tests::fuzz::digest::{digest, trimmed_digest};
+use cutlist_tests::fuzz::digest::{digest, replay_digest, trimmed_digest};
 use cutlist_tests::fuzz::search::{panic_of, search, Difference};
 use cutlist_tests::fuzz::shrinking::shrink;
 use cutlist_tests::fuzz::{making, questions};
@@ -48,10 +49,11 @@ struct Options {
     seed: Option<u64>,
     case: Option<u64>,
     each: bool,
-    replay: Option<PathBuf>,
+    file: Option<PathBuf>,
     smoke: bool,
     digest: bool,
     trimmed: bool,
+    replay: bool,
     without_loops: bool,
     without_lengths: bool,
 }
@@ -68,10 +70,11 @@ impl Options {
                 "--seed" => options.seed = Some(number(value()?)?),
                 "--case" => options.case = Some(number(value()?)?),
                 "--each" => options.each = true,
-                "--replay" => options.replay = Some(value()?.into()),
+                "--file" => options.file = Some(value()?.into()),
                 "--smoke" => options.smoke = true,
                 "--digest" => options.digest = true,
                 "--trimmed" => options.trimmed = true,
+                "--replay" => options.replay = true,
                 "--without-loops" => options.without_loops = true,
                 "--without-lengths" => options.without_lengths = true,
                 _ => return Err(format!("{name} is no option")),
@@ -79,6 +82,7 @@ impl Options {
         }
         for (given, name) in [
             (options.trimmed, "--trimmed"),
+            (options.replay, "--replay"),
             (options.without_loops, "--without-loops"),
             (options.without_lengths, "--without-lengths"),
         ] {
@@ -86,7 +90,10 @@ impl Options {
                 return Err(format!("{name} goes with --digest alone"));
             }
         }
-        Ok(options)
+        match options.trimmed && options.replay {
+            true => Err("--trimmed and --replay are numbers of their own".to_string()),
+            false => Ok(options),
+        }
     }
 }
 
@@ -98,8 +105,8 @@ fn main() -> ExitCode {
             return ExitCode::from(2);
         }
     };
-    match &options.replay {
-        Some(file) => replay(file),
+    match &options.file {
+        Some(file) => try_again(file),
         None if options.digest => tell_digest(&options),
         None => run(&options),
     }
@@ -116,9 +123,10 @@ fn tell_digest(options: &Options) -> ExitCode {
         .map(|case| make(seed, case))
         .filter(|bytes| !options.without_loops || !Case::of(bytes).has_loop())
         .filter(|bytes| !options.without_lengths || !bytes.contains(&0x4D));
-    let number = match options.trimmed {
-        true => trimmed_digest(cases),
-        false => digest(cases),
+    let number = match (options.trimmed, options.replay) {
+        (true, _) => trimmed_digest(cases),
+        (_, true) => replay_digest(cases),
+        _ => digest(cases),
     };
     println!("{number:016x}");
     ExitCode::SUCCESS
@@ -182,13 +190,13 @@ fn report(seed: u64, found: &Difference) {
     let folder = Path::new(env!("CARGO_MANIFEST_DIR")).join("target/fuzz");
     let file = folder.join(format!("seed-{seed}-case-{}", found.number));
     match fs::create_dir_all(&folder).and_then(|()| fs::write(&file, &bytes)) {
-        Ok(()) => println!("{COMMAND} --replay {}", file.display()),
+        Ok(()) => println!("{COMMAND} --file {}", file.display()),
         Err(e) => println!("{}: {e}", file.display()),
     }
     println!("{COMMAND} --seed {seed} --case {}", found.number);
 }
 
-fn replay(file: &Path) -> ExitCode {
+fn try_again(file: &Path) -> ExitCode {
     match fs::read(file) {
         Ok(bytes) => match tell(&bytes) {
             false => ExitCode::SUCCESS,
@@ -211,6 +219,7 @@ fn tell(bytes: &[u8]) -> bool {
         "buffer {:?}, rows {:?} with {} more for sides, set {:#x}",
         case.buffer, case.rows, case.more_sides, case.set
     );
+    println!("log {:02X?}", case.log);
     let difference = ask_alone(bytes);
     match &difference {
         Some(message) => println!("differs: {message}"),

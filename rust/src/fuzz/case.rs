@@ -5,7 +5,9 @@
 use std::array;
 
 use crate::brute::members;
+use crate::logs;
 use crate::record::{Record, MOST_NODES, SLOTS};
+use crate::rng::Rng;
 
 /// Bytes in the head.
 pub const HEAD: usize = 22;
@@ -41,6 +43,8 @@ pub struct Case<'a> {
     pub more_sides: isize,
     /// The set to judge; what lent memory holds is drawn from it too.
     pub set: u64,
+    /// The log to play back: drawn from the set but for its lowest byte, which is the log's length.
+    pub log: Vec<u8>,
 }
 
 /// A size: measured from what is needed, from the least that always suffices, or from nothing.
@@ -109,6 +113,9 @@ impl Case<'_> {
             ..record(&fields)
         };
 
+        let [length, ..] = set.to_le_bytes();
+        let log = logs::log(&mut Rng::new(set >> 8), &record, length.into());
+
         Case {
             body,
             plan,
@@ -122,6 +129,7 @@ impl Case<'_> {
                 _ => isize::from(sides) - 224,
             },
             set,
+            log,
         }
     }
 

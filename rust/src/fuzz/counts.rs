@@ -26,6 +26,7 @@ pub struct Counts {
     pub metres: Tally,
     pub list: Tally,
     pub list_trimmed: Tally,
+    pub replay: Tally,
     pub widths: u64,
     pub verdicts: Verdicts,
     /// Halls with a complete list, by length: one row, or more.
@@ -57,6 +58,19 @@ pub struct Counts {
     /// Totals that take more than 16 bits, and the largest.
     pub large_totals: u64,
     pub most_metres: u32,
+    /// Events played back: those after which the room is heard and those after which it is silent,
+    /// those at which it went silent and those at which it came back, and those that change nothing.
+    pub heard: u64,
+    pub silent: u64,
+    pub went_silent: u64,
+    pub came_back: u64,
+    pub repeats: u64,
+    pub most_events: usize,
+    /// Half events where there is no other fault, and behind another.
+    pub half_events: u64,
+    pub half_events_behind: u64,
+    /// Logs with one byte less lent than there are whole events, with as many, one more and two more.
+    pub lent_to_logs: [u64; 4],
 }
 
 impl Counts {
@@ -123,8 +137,33 @@ impl Counts {
         }
     }
 
+    /// Notes the answer to a log with so many bytes lent, and what was written.
+    pub fn played(&mut self, record: &Record, log: &[u8], lent: usize, number: u8, silent: &[u8]) {
+        self.replay.count(number);
+        let whole = log.len() / 2;
+        self.lent_to_logs[lent + 1 - whole] += 1;
+        if number == 0 {
+            let downs = reference::replay(record, log, lent).expect("no fault");
+            let repeats = downs.windows(2).filter(|pair| pair[0] == pair[1]).count();
+            let changes = |from, to| silent.windows(2).filter(|pair| *pair == [from, to]).count();
+            let after = |state| silent.iter().filter(|&&byte| byte == state).count();
+            self.heard += after(0) as u64;
+            self.silent += after(1) as u64;
+            self.went_silent += changes(0, 1) as u64;
+            self.came_back += changes(1, 0) as u64;
+            self.repeats += repeats as u64;
+            self.most_events = self.most_events.max(whole);
+        }
+        if matches!(number, 16 | 17) && log.len() > 2 * whole {
+            match reference::replay(record, &log[..2 * whole], lent) {
+                Ok(_) => self.half_events += 1,
+                Err(_) => self.half_events_behind += 1,
+            }
+        }
+    }
+
     /// Every refusal of every function occurred and no other, every verdict, short and long lists,
-    /// long ways, loops, trimmed halls and lengths.
+    /// long ways, loops, trimmed halls, lengths and logs.
     pub fn assert_wide(&self) {
         for (tally, of_the_plan, more) in [
             (&self.decode, READING, &[][..]),
@@ -135,6 +174,7 @@ impl Counts {
             (&self.metres, FAULTS, &[14]),
             (&self.list, FAULTS, &[11, 12]),
             (&self.list_trimmed, FAULTS, &[26, 11, 12]),
+            (&self.replay, FAULTS, &[16, 17, 18]),
         ] {
             let numbers = [&[0], of_the_plan, more].concat();
             tally.assert_only(&numbers);
@@ -163,6 +203,19 @@ impl Counts {
         assert!(self.absent_measured >= 300, "{self}");
         assert!(self.large_totals >= 10_000, "{self}");
         assert!(self.most_metres >= 1_000_000, "{self}");
+        self.replay.assert_each(&[0, 16, 17, 18], 5_000);
+        assert!(self.heard >= 100_000, "{self}");
+        assert!(self.silent >= 100_000, "{self}");
+        assert!(self.went_silent >= 20_000, "{self}");
+        assert!(self.came_back >= 20_000, "{self}");
+        assert!(self.repeats >= 100_000, "{self}");
+        assert!(self.most_events >= 120, "{self}");
+        assert!(self.half_events >= 5_000, "{self}");
+        assert!(self.half_events_behind >= 500, "{self}");
+        assert!(
+            self.lent_to_logs.iter().all(|&logs| logs >= 20_000),
+            "{self}"
+        );
     }
 }
 
@@ -180,6 +233,7 @@ impl fmt::Display for Counts {
             ("metres", &self.metres),
             ("list", &self.list),
             ("list_trimmed", &self.list_trimmed),
+            ("replay", &self.replay),
         ] {
             write!(f, " {name} {},", tally.total())?;
             all += tally.clone();
@@ -199,7 +253,10 @@ impl fmt::Display for Counts {
              {} listed as trimmed, {} of them without a route, of up to {} points; \
              {} not trimmed for their loops alone, {} not trimmed with different numbers of rows; \
              {} measured plans, plans of up to {} bytes, {} records with metres of absent cables alone; \
-             {} totals above 65535, up to {}",
+             {} totals above 65535, up to {}; \
+             events played back: {} heard, {} silent, {} that silence, {} that bring back, {} repeats, up to {} in a log; \
+             {} half events, {} behind another fault; \
+             logs with one byte too few lent, as many, one more and two more: {:?}",
             all.of(0),
             self.short_lists,
             self.longer_lists,
@@ -220,7 +277,16 @@ impl fmt::Display for Counts {
             self.most_bytes,
             self.absent_measured,
             self.large_totals,
-            self.most_metres
+            self.most_metres,
+            self.heard,
+            self.silent,
+            self.went_silent,
+            self.came_back,
+            self.repeats,
+            self.most_events,
+            self.half_events,
+            self.half_events_behind,
+            self.lent_to_logs
         )
     }
 }

@@ -2,12 +2,13 @@
 //! bytes and rows as the calls left them. A change that should change no answer leaves the number as
 //! it was. The reference has no part in it, and neither have names and types: a number counts as its
 //! eight bytes, whatever its width. Lengths count where there are any: a case without them gives the
-//! number that it gave before plans had them. The lists of trimmed plans have a number of their own.
+//! number that it gave before plans had them. The lists of trimmed plans have a number of their own,
+//! and so have the logs.
 
 use crate::answers::Nodes;
 use crate::brute::members;
 use crate::fuzz::case::{self, Case};
-use crate::fuzz::questions::{ample, lent_bytes, lent_rows, sets, LONGEST_LIST};
+use crate::fuzz::questions::{ample, lent_bytes, lent_rows, logs, sets, LONGEST_LIST};
 use crate::lent;
 use crate::plans;
 use crate::record::Record;
@@ -59,6 +60,22 @@ pub fn trimmed_digest(cases: impl IntoIterator<Item = Vec<u8>>) -> u64 {
     })
 }
 
+/// The number of what is written for their logs.
+pub fn replay_digest(cases: impl IntoIterator<Item = Vec<u8>>) -> u64 {
+    digest_of(cases, |case, digest| {
+        let (mut cuts, mut sides) = (vec![0; LONGEST_LIST], vec![0; LONGEST_LIST]);
+        let (_, rows) = sys::list(&case.record, &mut cuts, &mut sides);
+        let mut rng = Rng::new(!case.set);
+        for (log, lent) in logs(case, &cuts[..rows], &mut rng) {
+            let mut silent = rng.bytes(lent);
+            let (refusal, count) = sys::replay(&case.record, &log, &mut silent);
+            digest.number(refusal);
+            digest.number(count as u64);
+            digest.bytes(&silent);
+        }
+    })
+}
+
 fn digest_of(
     cases: impl IntoIterator<Item = Vec<u8>>,
     answers: impl Fn(&Case, &mut Digest),
@@ -70,7 +87,7 @@ fn digest_of(
     digest.0
 }
 
-/// Asks every function but the one for trimmed plans.
+/// Asks every function but those for trimmed plans and for logs.
 fn answers(case: &Case, digest: &mut Digest) {
     let record = &case.record;
     let mut rng = Rng::new(case.set);

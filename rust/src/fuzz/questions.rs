@@ -4,6 +4,7 @@ use crate::answers::{Part, Row, Verdict};
 use crate::fuzz::case::{self, Case, Size};
 use crate::fuzz::counts::Counts;
 use crate::lent;
+use crate::logs;
 use crate::record::{Record, SLOTS};
 use crate::reference::LONGEST_PLAN;
 use crate::rng::Rng;
@@ -65,6 +66,7 @@ fn on_the_record(case: &Case, counts: &mut Counts) {
         other_loops(case, &known, &mut rng, counts);
         trimmed(case, &known, &mut rng, counts);
     }
+    playing_back(case, &known, &cuts, counts);
     if !cuts.is_empty() {
         counts.listed(cuts.len(), known.part);
         widths(&cuts, counts);
@@ -98,6 +100,24 @@ fn adding_up(record: &Record, set: u64, counts: &mut Counts) {
     let (number, total) = compare::metres(record, set);
     counts.metres.count(number);
     counts.added_up(total);
+}
+
+/// The room is silent while no route is left, which is while some minimal cut, if they are known, is
+/// wholly down.
+fn playing_back(case: &Case, known: &Known, cuts: &[u64], counts: &mut Counts) {
+    let record = &case.record;
+    let is_silent = |down| {
+        let silent = known.is_cut(record, down);
+        let by_cuts = cuts.is_empty() || brute::holds_one(cuts, down) == silent;
+        assert!(by_cuts, "{down:#x}, {record:?}");
+        silent
+    };
+    let mut rng = Rng::new(!case.set);
+    for (log, lent) in logs(case, cuts, &mut rng) {
+        let before = rng.bytes(lent);
+        let (number, silent) = compare::replay(record, &log, &before, is_silent);
+        counts.played(record, &log, lent, number, &silent);
+    }
 }
 
 /// An accepted hall has the same useful part and the same list without its loops, and with one loop
@@ -164,12 +184,35 @@ pub fn lent_bytes(case: &Case) -> usize {
 pub fn sets(case: &Case, cuts: &[u64]) -> Vec<u64> {
     let (any, present) = (case.set, case.record.present);
     let mut sets = vec![any, any & present];
-    if !cuts.is_empty() {
-        let cut = cuts[(any % cuts.len() as u64) as usize];
+    if let Some(cut) = one_of(case, cuts) {
         let edge = 1 << (any >> 58);
         sets.extend([cut, cut ^ edge & present, cut | edge, cut ^ edge]);
     }
     sets
+}
+
+/// One of the cuts, if there are any.
+fn one_of(case: &Case, cuts: &[u64]) -> Option<u64> {
+    let place = case.set.checked_rem(cuts.len() as u64)?;
+    Some(cuts[place as usize])
+}
+
+/// The logs to play back, each with the number of bytes to lend, from one less than there are whole
+/// events to two more: the log of the case, its whole events, those damaged, and, if the list is known,
+/// the log of a minimal cut that goes down and comes up.
+pub fn logs(case: &Case, cuts: &[u64], rng: &mut Rng) -> Vec<(Vec<u8>, usize)> {
+    let whole = case.log[..case.log.len() / 2 * 2].to_vec();
+    let mut damaged = whole.clone();
+    for _ in 0..=rng.below(2) {
+        logs::damage(rng, &case.record, &mut damaged);
+    }
+    let mut logs = vec![case.log.clone(), whole, damaged];
+    logs.extend(one_of(case, cuts).map(|cut| logs::down_and_up(rng, cut)));
+    let lent = |log: Vec<u8>| {
+        let lent = (log.len() / 2 + rng.below(4)).saturating_sub(1);
+        (log, lent)
+    };
+    logs.into_iter().map(lent).collect()
 }
 
 /// The numbers of cut rows and side rows to lend: those of the case, and exactly the rows needed, if
@@ -237,6 +280,13 @@ impl Known {
             minpaths: None,
             rows: Some(vec![]),
             ample: 0,
+        }
+    }
+
+    fn is_cut(&self, record: &Record, set: u64) -> bool {
+        match &self.minpaths {
+            Some(minpaths) => brute::is_cut(minpaths, set),
+            None => sides::is_cut(record, set),
         }
     }
 
