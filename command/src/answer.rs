@@ -1,9 +1,10 @@
 //! What is answered for plans: printed, below the file's name if there are several, and how it ends.
 
 use std::ffi::{OsStr, OsString};
+use std::fmt;
 use std::io;
 
-use cutlist::Refusal;
+use cutlist::{ListError, Refusal};
 
 use crate::input;
 use crate::output::{print, say, shown};
@@ -11,22 +12,22 @@ use crate::status::Status;
 
 /// What is answered for a plan.
 #[derive(Debug, PartialEq, Eq)]
-pub enum Answer {
+pub enum Answer<L = String> {
     /// The lines to print.
-    Given(String),
+    Given(L),
     /// Why there are none.
     Refused(Refusal),
 }
 
-impl Answer {
-    /// The library's answer. A number that is no known refusal is none: it is the error.
-    pub fn of(answered: Result<String, Refusal>) -> Result<Answer, String> {
-        match answered {
+impl<L> Answer<L> {
+    /// The library's answer. A number that is no known refusal is none: it is an error, and so is
+    /// memory that the system does not give.
+    pub fn of(answered: Result<L, impl Into<ListError>>) -> Result<Answer<L>, String> {
+        let known = |refusal: Refusal| Refusal::from_number(refusal.number()).is_some();
+        match answered.map_err(Into::into) {
             Ok(lines) => Ok(Answer::Given(lines)),
-            Err(unknown) if Refusal::from_number(unknown.number()).is_none() => {
-                Err(unknown.to_string())
-            }
-            Err(refusal) => Ok(Answer::Refused(refusal)),
+            Err(ListError::Refused(refusal)) if known(refusal) => Ok(Answer::Refused(refusal)),
+            Err(failure) => Err(failure.to_string()),
         }
     }
 }
@@ -44,28 +45,31 @@ pub fn each(
             [_] => String::new(),
             _ => format!("{}:\n", shown(file)),
         };
-        largest = largest.max(one(file, heading, &answer)?);
+        // Nothing is printed, the heading neither, unless there is an answer.
+        let ended = match input::plan(file) {
+            Some(plan) => tell(file, &heading, answer(&plan))?,
+            None => Status::Unread,
+        };
+        largest = largest.max(ended);
     }
     Ok(largest)
 }
 
-/// The same for one file. Nothing is printed, the heading neither, unless there is an answer.
-fn one(
+/// Prints an answer below its heading. Why there are no lines is said after the name of the file that
+/// it is due to. An error is one of standard output.
+pub fn tell<L: fmt::Display>(
     file: &OsStr,
-    heading: String,
-    answer: impl Fn(&[u8]) -> Result<Answer, String>,
+    heading: &str,
+    answer: Result<Answer<L>, String>,
 ) -> io::Result<Status> {
     let name = shown(file);
-    let Some(plan) = input::plan(file) else {
-        return Ok(Status::Unread);
-    };
-    match answer(&plan) {
+    match answer {
         Ok(Answer::Given(lines)) => {
-            print((heading + &lines).as_bytes())?;
+            print(format_args!("{heading}{lines}"))?;
             Ok(Status::Done)
         }
         Ok(Answer::Refused(refusal)) => {
-            print(format!("{heading}refused {}\n", refusal.number()).as_bytes())?;
+            print(format_args!("{heading}refused {}\n", refusal.number()))?;
             say(format_args!("{name}: {refusal}"));
             Ok(Status::Refused)
         }

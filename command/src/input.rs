@@ -1,4 +1,4 @@
-//! The one rule by which plans are read: a name that ends in .hex is text, anything else and `-`,
+//! The one rule by which plans and logs are read: a name that ends in .hex is text, anything else and `-`,
 //! standard input, is bytes. An input is read once, whatever kind of file it is.
 
 use std::ffi::OsStr;
@@ -19,6 +19,18 @@ const TEXT: &[u8] = b".hex";
 /// How many bytes of a faulty token a message shows at most.
 const TOKEN_SHOWN: usize = 40;
 
+/// How many bytes a log may have. It is held whole, since it is checked before anything is printed.
+const LONGEST_LOG: usize = 1 << 28;
+
+/// What is taken from an input.
+#[derive(Clone, Copy)]
+enum Taken {
+    /// The first bytes, so many if it has as many.
+    First(usize),
+    /// All bytes, of which there may be so many.
+    All(usize),
+}
+
 /// Why there is nothing to take from an input.
 #[derive(Debug)]
 pub enum Fault {
@@ -26,6 +38,8 @@ pub enum Fault {
     Io(io::Error),
     /// A token of its text is not whole bytes. Of a long token this is the start.
     Token { line: u64, token: Vec<u8> },
+    /// It has more bytes than it may have.
+    TooLong { most: usize },
 }
 
 impl From<io::Error> for Fault {
@@ -46,14 +60,31 @@ impl fmt::Display for Fault {
                     "line {line}: '{shown}{more}' is not bytes of two hexadecimal digits each"
                 )
             }
+            Fault::TooLong { most } => write!(f, "more than {most} bytes"),
         }
     }
 }
 
 /// The bytes that decide the plan of this name. If there is nothing to take, says why.
 pub fn plan(name: &OsStr) -> Option<Vec<u8>> {
-    match read(name, DECIDING) {
-        Ok(plan) => Some(plan),
+    taken(name, Taken::First(DECIDING))
+}
+
+/// The whole log of this name. If there is nothing to take, says why.
+pub fn log(name: &OsStr) -> Option<Vec<u8>> {
+    taken(name, Taken::All(LONGEST_LOG))
+}
+
+fn taken(name: &OsStr, taken: Taken) -> Option<Vec<u8>> {
+    let read = || {
+        let file = open(name)?;
+        match name.as_encoded_bytes().ends_with(TEXT) {
+            true => bytes_of(BufReader::new(file), taken),
+            false => bytes(file, taken),
+        }
+    };
+    match read() {
+        Ok(bytes) => Some(bytes),
         Err(fault) => {
             say(format_args!("{}: {fault}", shown(name)));
             None
@@ -61,16 +92,21 @@ pub fn plan(name: &OsStr) -> Option<Vec<u8>> {
     }
 }
 
-/// The first bytes of the input of this name, `most` of them if it has as many. Of bytes no more
-/// than these are read, so that an endless file has an answer. Text is checked to its end: a fault
-/// anywhere in it says that it is not what it was taken for.
-fn read(name: &OsStr, most: usize) -> Result<Vec<u8>, Fault> {
-    let file = open(name)?;
-    if name.as_encoded_bytes().ends_with(TEXT) {
-        return bytes_of(BufReader::new(file), most);
-    }
+/// What is taken from an input of bytes. No more is read than shows it, so that an endless file has an
+/// answer.
+fn bytes(input: impl Read, taken: Taken) -> Result<Vec<u8>, Fault> {
     let mut bytes = Vec::new();
-    file.take(most as u64).read_to_end(&mut bytes)?;
+    match taken {
+        Taken::First(most) => {
+            input.take(most as u64).read_to_end(&mut bytes)?;
+        }
+        Taken::All(most) => {
+            input.take(most as u64 + 1).read_to_end(&mut bytes)?;
+            if bytes.len() > most {
+                return Err(Fault::TooLong { most });
+            }
+        }
+    }
     Ok(bytes)
 }
 
@@ -83,9 +119,11 @@ fn open(name: &OsStr) -> io::Result<File> {
     File::open(name)
 }
 
-/// The first bytes that a text stands for: tokens of whole bytes, two hexadecimal digits each,
-/// between spaces, tabs, line ends and comments, which begin with '#'.
-fn bytes_of(text: impl BufRead, most: usize) -> Result<Vec<u8>, Fault> {
+/// What is taken of the bytes that a text stands for: tokens of whole bytes, two hexadecimal digits
+/// each, between spaces, tabs, line ends and comments, which begin with '#'. Where the first bytes are
+/// taken, the text is checked to its end: a fault anywhere in it says that it is not what it was taken
+/// for.
+fn bytes_of(text: impl BufRead, taken: Taken) -> Result<Vec<u8>, Fault> {
     let mut bytes = Vec::new();
     let mut token = Token::default();
     let mut comment = false;
@@ -101,8 +139,15 @@ fn bytes_of(text: impl BufRead, most: usize) -> Result<Vec<u8>, Fault> {
             _ if comment => {}
             _ => {
                 if let Some(byte) = token.take(c, line)? {
-                    if bytes.len() < most {
-                        bytes.push(byte);
+                    match taken {
+                        Taken::First(most) if bytes.len() >= most => {}
+                        Taken::All(most) if bytes.len() >= most => {
+                            return Err(Fault::TooLong { most });
+                        }
+                        _ => {
+                            bytes.try_reserve(1).map_err(io::Error::from)?;
+                            bytes.push(byte);
+                        }
                     }
                 }
             }
@@ -164,7 +209,7 @@ impl Token {
 mod tests {
     use super::*;
 
-    const ALL: usize = usize::MAX;
+    const ALL: Taken = Taken::All(usize::MAX);
 
     fn taken(text: &str) -> Vec<u8> {
         bytes_of(text.as_bytes(), ALL).unwrap_or_else(|fault| panic!("{text:?}: {fault}"))
@@ -259,19 +304,38 @@ mod tests {
 
     #[test]
     fn the_first_bytes_are_kept_and_the_rest_is_checked() {
-        assert_eq!(
-            bytes_of(&b"50 04 53 00"[..], 3).unwrap(),
-            [0x50, 0x04, 0x53]
-        );
-        assert_eq!(bytes_of(&b"50045300"[..], 0).unwrap(), []);
-        let late = bytes_of(&b"50 04 53\n00 3"[..], 2).unwrap_err();
+        let first = |text: &'static [u8], most| bytes_of(text, Taken::First(most));
+        assert_eq!(first(b"50 04 53 00", 3).unwrap(), [0x50, 0x04, 0x53]);
+        assert_eq!(first(b"50045300", 0).unwrap(), []);
+        let late = first(b"50 04 53\n00 3", 2).unwrap_err();
         assert_eq!(late.to_string(), naming(2, "3"));
+        assert_eq!(bytes(&b"D045"[..], Taken::First(3)).unwrap(), b"D04");
+    }
+
+    #[test]
+    fn where_all_bytes_are_taken_one_too_many_is_a_fault() {
+        let text = b"44 00 55 00";
+        assert_eq!(bytes_of(&text[..], Taken::All(4)).unwrap(), b"D\0U\0");
+        let raw = b"D\0U\0";
+        assert_eq!(bytes(&raw[..], Taken::All(4)).unwrap(), raw);
+        for most in 0..4 {
+            let said = format!("more than {most} bytes");
+            let fault = bytes_of(&text[..], Taken::All(most)).unwrap_err();
+            assert_eq!(fault.to_string(), said);
+            let fault = bytes(&raw[..], Taken::All(most)).unwrap_err();
+            assert_eq!(fault.to_string(), said);
+        }
+        // It is told without reading on: neither has an end.
+        assert!(bytes(io::repeat(b'D'), Taken::All(1_000)).is_err());
+        let endless = BufReader::new(io::repeat(b'4'));
+        assert!(bytes_of(endless, Taken::All(1_000)).is_err());
     }
 
     #[test]
     fn a_token_of_any_length_is_shown_by_its_start() {
         let digits = "45".repeat(1_000_000);
-        assert_eq!(bytes_of(digits.as_bytes(), 5).unwrap(), [0x45; 5]);
+        let first = bytes_of(digits.as_bytes(), Taken::First(5));
+        assert_eq!(first.unwrap(), [0x45; 5]);
         let start = &format!("{}..", &digits[..TOKEN_SHOWN]);
         for long in [
             format!("{digits}4"),

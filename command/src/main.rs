@@ -9,6 +9,7 @@ mod list;
 mod metres;
 mod output;
 mod program;
+mod replay;
 mod status;
 mod trimmed;
 
@@ -36,6 +37,8 @@ enum Asked {
     Trimmed(Vec<OsString>),
     /// The metres of these cables of a file, or of all that its plan has.
     Metres(OsString, Option<EdgeSet>),
+    /// What a log, the second file, did to the room of a plan, the first.
+    Replay(OsString, OsString),
 }
 
 fn main() -> ExitCode {
@@ -61,7 +64,7 @@ fn run() -> io::Result<Status> {
             Ok(Status::Unread)
         }
         Ok(Asked::Help) => {
-            print(USAGE.as_bytes())?;
+            print(USAGE)?;
             Ok(Status::Done)
         }
         Ok(Asked::List(mut files)) => {
@@ -72,21 +75,25 @@ fn run() -> io::Result<Status> {
         }
         Ok(Asked::Trimmed(files)) => trimmed::run(&files),
         Ok(Asked::Metres(file, edges)) => metres::run(&file, edges),
+        Ok(Asked::Replay(plan, log)) => replay::run(&plan, &log),
     }
 }
+
+/// The words that say what to do.
+const WORDS: [&str; 3] = ["trimmed", "metres", "replay"];
 
 /// What the arguments ask for, or what is wrong with them. A word that says what to do stands first:
 /// anywhere else, and after `--`, it is a file's name.
 fn asked(arguments: impl Iterator<Item = OsString>) -> Result<Asked, String> {
     let mut arguments = arguments.peekable();
-    let word = arguments.next_if(|word| word == "trimmed" || word == "metres");
+    let word = arguments.next_if(|word| WORDS.iter().any(|known| word == known));
     let Some(words) = words(arguments)? else {
         return Ok(Asked::Help);
     };
     let Some(word) = word else {
         return Ok(Asked::List(files(words)?));
     };
-    let Some((file, cables)) = words.split_first() else {
+    let Some((file, others)) = words.split_first() else {
         let word = word.display();
         return Err(format!(
             "{word} needs a FILE; a file of that name is listed as ./{word}"
@@ -95,9 +102,15 @@ fn asked(arguments: impl Iterator<Item = OsString>) -> Result<Asked, String> {
     if word == "trimmed" {
         return Ok(Asked::Trimmed(files(words)?));
     }
-    let edges = match cables {
+    if word == "replay" {
+        return match &files(words)?[..] {
+            [plan, log] => Ok(Asked::Replay(plan.clone(), log.clone())),
+            _ => Err("replay needs a PLAN and a LOG, and no other FILE".to_string()),
+        };
+    }
+    let edges = match others {
         [] => None,
-        _ => Some(metres::edges(cables)?),
+        cables => Some(metres::edges(cables)?),
     };
     Ok(Asked::Metres(file.clone(), edges))
 }

@@ -3,14 +3,15 @@
 use std::ffi::OsStr;
 use std::fmt;
 use std::fs::File;
-use std::io::{self, Write};
+use std::io::{self, BufWriter, Write};
 use std::os::fd::AsFd;
 
-/// Writes an answer whole. Not by the handle of `std`, which takes a write to a stream that is not
-/// open for writing as done.
-pub fn print(answer: &[u8]) -> io::Result<()> {
-    let mut stdout = File::from(io::stdout().as_fd().try_clone_to_owned()?);
-    stdout.write_all(answer)?;
+/// Writes an answer whole, as it is made. Not by the handle of `std`, which takes a write to a stream
+/// that is not open for writing as done.
+pub fn print(answer: impl fmt::Display) -> io::Result<()> {
+    let stdout = File::from(io::stdout().as_fd().try_clone_to_owned()?);
+    let mut stdout = BufWriter::new(stdout);
+    write!(stdout, "{answer}")?;
     stdout.flush()
 }
 

@@ -13,11 +13,7 @@ const MAX_ROWS: usize = 2048;
 
 /// Lists the plans of the files. An error is one of standard output.
 pub fn run(files: &[OsString]) -> io::Result<Status> {
-    answer::each(files, |plan| match list(plan) {
-        Ok(lines) => Answer::of(Ok(lines)),
-        Err(ListError::Refused(refusal)) => Answer::of(Err(refusal)),
-        Err(failure) => Err(failure.to_string()),
-    })
+    answer::each(files, |plan| Answer::of(list(plan)))
 }
 
 /// The list as the list program prints it.

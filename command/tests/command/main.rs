@@ -5,6 +5,7 @@ mod files;
 mod halls;
 mod metres;
 mod program;
+mod replay;
 mod running;
 mod streams;
 mod text;

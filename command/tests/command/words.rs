@@ -4,7 +4,7 @@
 use std::ffi::OsStr;
 use std::io;
 use std::os::unix::ffi::OsStrExt;
-use std::path::Path;
+use std::path::{Path, PathBuf};
 use std::process::{Command, Stdio};
 
 use super::running::*;
@@ -19,12 +19,43 @@ pub const ALL: &str = "metres 315\nunmeasured 2\n";
 
 pub const LOST: &str = "standard output did not take the whole answer: ";
 
-/// Each word, and what it answers for that plan.
-const WORDS: [(&str, &str); 2] = [("trimmed", BRIDGE_LIST), ("metres", ALL)];
+/// What the log of the bridge did.
+pub const PLAYED: &str = "events 4\n\
+    0 | heard\n\
+    1 down 0 | heard\n\
+    2 down 1 | silent, went silent\n\
+    3 down 1 | silent\n\
+    4 up 0 | heard, came back\n";
 
-/// The command with a word and a file.
-fn asked(word: &str, file: &Path) -> Ended {
-    run(Command::new(script()).arg(word).arg(file))
+/// Each word, the log that it takes behind the plan, if it takes one, and what it answers for that
+/// plan.
+const WORDS: [(&str, Option<&str>, &str); 3] = [
+    ("trimmed", None, BRIDGE_LIST),
+    ("metres", None, ALL),
+    ("replay", Some("logs/bridge.hex"), PLAYED),
+];
+
+/// Where a log of the repository stands, if there is one.
+fn place(log: Option<&str>) -> Option<PathBuf> {
+    log.map(|log| root().join(log))
+}
+
+/// The same behind a line of bash.
+fn behind(log: Option<&str>) -> String {
+    place(log).map_or(String::new(), |log| format!(" '{}'", log.display()))
+}
+
+/// The command with a word, a file, and the log that the word takes.
+fn asked(word: &str, file: &Path, log: Option<&str>) -> Ended {
+    let files = [Some(file.to_path_buf()), place(log)];
+    run(Command::new(script())
+        .arg(word)
+        .args(files.iter().flatten()))
+}
+
+/// The command with words and the log, and the plan on standard input.
+fn fed(words: &[&str], log: Option<&str>, plan: &[u8]) -> Ended {
+    feed(Command::new(script()).args(words).args(place(log)), plan)
 }
 
 #[test]
@@ -32,17 +63,19 @@ fn a_plan_comes_as_it_comes_without_a_word() {
     let folder = Folder::new();
     let plan = &folder.file("plan", MEASURED);
     let text = &folder.file("plan.hex", hexadecimal(MEASURED));
-    for (word, answer) in WORDS {
-        asked(word, plan).listed(answer);
-        asked(word, text).listed(answer);
-        feed(Command::new(script()).args([word, "-"]), MEASURED).listed(answer);
-        feed(Command::new(script()).args([word, "--", "-"]), MEASURED).listed(answer);
-        bash(&format!("cutlist {word} <(cat \"$1\")"), &[plan]).listed(answer);
-        bash(&format!("cat \"$1\" | cutlist {word} /dev/stdin"), &[plan]).listed(answer);
+    for (word, log, answer) in WORDS {
+        asked(word, plan, log).listed(answer);
+        asked(word, text, log).listed(answer);
+        fed(&[word, "-"], log, MEASURED).listed(answer);
+        fed(&[word, "--", "-"], log, MEASURED).listed(answer);
+        let log = behind(log);
+        bash(&format!("cutlist {word} <(cat \"$1\"){log}"), &[plan]).listed(answer);
+        let piped = format!("cat \"$1\" | cutlist {word} /dev/stdin{log}");
+        bash(&piped, &[plan]).listed(answer);
         let pieces = "{ head -c 11 \"$1\"; sleep 0.1; tail -c +12 \"$1\"; }";
-        bash(&format!("{pieces} | cutlist {word} -"), &[plan]).listed(answer);
+        bash(&format!("{pieces} | cutlist {word} -{log}"), &[plan]).listed(answer);
         let fifo = &folder.0.join(format!("{word}.hex"));
-        let line = format!("mkfifo \"$2\"; cat \"$1\" >\"$2\" & cutlist {word} \"$2\"");
+        let line = format!("mkfifo \"$2\"; cat \"$1\" >\"$2\" & cutlist {word} \"$2\"{log}");
         bash(&line, &[text, fifo]).listed(answer);
     }
 }
@@ -51,28 +84,28 @@ fn a_plan_comes_as_it_comes_without_a_word() {
 fn the_list_program_is_not_asked() {
     let folder = Folder::new();
     let plan = &folder.file("plan", MEASURED);
-    for (word, answer) in WORDS {
+    for (word, log, answer) in WORDS {
         run(Command::new(env!("CARGO_BIN_EXE_cutlist"))
             .arg(&folder.0)
             .arg(word)
-            .arg(plan))
+            .arg(plan)
+            .args(place(log)))
         .listed(answer);
     }
 }
 
 #[test]
 fn no_beginning_of_a_plan_has_an_answer() {
-    for (word, _) in WORDS {
+    for (word, log, _) in WORDS {
         for end in 0..MEASURED.len() {
-            let plan = &MEASURED[..end];
-            feed(Command::new(script()).args([word, "-"]), plan).refused(1, "the plan stops early");
+            fed(&[word, "-"], log, &MEASURED[..end]).refused(1, "the plan stops early");
         }
     }
 }
 
 #[test]
 fn a_file_must_be_named() {
-    for (word, _) in WORDS {
+    for (word, ..) in WORDS {
         for words in [&[word][..], &[word, "--"]] {
             let ended = run(Command::new(script()).args(words));
             let needs = format!("{word} needs a FILE");
@@ -85,13 +118,15 @@ fn a_file_must_be_named() {
 fn what_cannot_be_read_is_said() {
     let folder = Folder::new();
     let malformed = &folder.file("plan.hex", hexadecimal(MEASURED) + "4");
-    for (word, _) in WORDS {
-        asked(word, &folder.0.join("missing")).failed(2, &["missing: No such file or directory"]);
-        asked(word, &folder.0).failed(2, &["Is a directory"]);
-        asked(word, Path::new("")).failed(2, &["No such file or directory"]);
-        asked(word, malformed).failed(2, &["plan.hex: line 1: '4' is not bytes"]);
-        bash(&format!("cutlist {word} - <&-"), &[]).failed(2, &["-: "]);
-        let unread = format!("cutlist {word} - 0>/dev/null");
+    for (word, log, _) in WORDS {
+        let missing = &folder.0.join("missing");
+        asked(word, missing, log).failed(2, &["missing: No such file or directory"]);
+        asked(word, &folder.0, log).failed(2, &["Is a directory"]);
+        asked(word, Path::new(""), log).failed(2, &["No such file or directory"]);
+        asked(word, malformed, log).failed(2, &["plan.hex: line 1: '4' is not bytes"]);
+        let log = behind(log);
+        bash(&format!("cutlist {word} -{log} <&-"), &[]).failed(2, &["-: "]);
+        let unread = format!("cutlist {word} -{log} 0>/dev/null");
         bash(&unread, &[]).failed(2, &["-: Bad file descriptor"]);
     }
 }
@@ -104,64 +139,80 @@ fn a_huge_input_has_an_answer() {
     let long = &folder.file("long.hex", &text);
     let longer = &folder.file("longer.hex", text + "45");
     let unfit = "a byte that is no command fit for its place";
-    for (word, answer) in WORDS {
+    for (word, log, answer) in WORDS {
         run(Command::new("timeout")
             .arg("60")
             .arg(script())
-            .args([word, "/dev/zero"]))
+            .args([word, "/dev/zero"])
+            .args(place(log)))
         .refused(2, unfit);
-        bash(&format!("cutlist {word} - < <(yes)"), &[]).refused(2, unfit);
-        let more = format!("cutlist {word} - < <(cat \"$1\" /dev/zero)");
+        asked(word, long, log).listed(answer);
+        asked(word, longer, log).refused(3, "a byte after 45");
+        let log = behind(log);
+        bash(&format!("cutlist {word} -{log} < <(yes)"), &[]).refused(2, unfit);
+        let more = format!("cutlist {word} -{log} < <(cat \"$1\" /dev/zero)");
         bash(&more, &[plan]).refused(3, "a byte after 45");
-        asked(word, long).listed(answer);
-        asked(word, longer).refused(3, "a byte after 45");
     }
 }
 
 #[test]
 fn a_file_may_have_any_name() {
     let folder = Folder::new();
-    let names = ["trimmed", "metres", "-x", "5", "a b", "cuts 1\n0 | 0"];
-    for (word, answer) in WORDS {
+    let names = [
+        "trimmed",
+        "metres",
+        "replay",
+        "-x",
+        "5",
+        "a b",
+        "cuts 1\n0 | 0",
+    ];
+    for (word, log, answer) in WORDS {
         for name in names {
             folder.file(name, MEASURED);
-            let behind = |words: &[&str]| {
+            let named = |words: &[&str], log| {
                 run(Command::new(script())
                     .args(words)
                     .arg(name)
+                    .args(place(log))
                     .current_dir(&folder.0))
             };
-            behind(&[word, "--"]).listed(answer);
-            behind(&["--"]).listed(BRIDGE_LIST);
+            named(&[word, "--"], log).listed(answer);
+            named(&["--"], None).listed(BRIDGE_LIST);
             // A message is one line, whatever the name.
             folder.file(name, "");
-            let refused = asked(word, &folder.0.join(name));
+            let refused = asked(word, &folder.0.join(name), log);
             refused.refused(1, "the plan stops early");
             assert_eq!(refused.err.lines().count(), 1, "{refused:?}");
         }
         let odd = folder.0.join(OsStr::from_bytes(b"\xFF.hex"));
         std::fs::write(&odd, hexadecimal(MEASURED)).expect("a file");
-        asked(word, &odd).listed(answer);
+        asked(word, &odd, log).listed(answer);
     }
 }
 
 /// One word says what to do; the next, and a word behind a file or `--`, is a file's name.
 #[test]
 fn a_file_that_is_called_as_a_word_is_listed() {
-    for (word, answer) in WORDS {
+    for (word, log, answer) in WORDS {
         let folder = Folder::new();
         folder.file(word, MEASURED);
         folder.file("plan", MEASURED);
-        let asked = |words: &[&str]| run(Command::new(script()).args(words).current_dir(&folder.0));
-        asked(&[&format!("./{word}")]).listed(BRIDGE_LIST);
-        asked(&["--", word]).listed(BRIDGE_LIST);
+        let asked = |words: &[&str], log| {
+            run(Command::new(script())
+                .args(words)
+                .args(place(log))
+                .current_dir(&folder.0))
+        };
+        asked(&[&format!("./{word}")], None).listed(BRIDGE_LIST);
+        asked(&["--", word], None).listed(BRIDGE_LIST);
         let both = format!("plan:\n{BRIDGE_LIST}{word}:\n{BRIDGE_LIST}");
-        asked(&["plan", word]).listed(&both);
-        asked(&[word]).failed(2, &[&format!("{word} needs a FILE")]);
-        for (other, answer) in WORDS {
-            asked(&[other, word]).listed(answer);
+        asked(&["plan", word], None).listed(&both);
+        asked(&[word], None).failed(2, &[&format!("{word} needs a FILE")]);
+        for (other, log, answer) in WORDS {
+            asked(&[other, word], log).listed(answer);
         }
-        asked(&[word, word]).listed(answer);
+        asked(&[word, word], log).listed(answer);
     }
 }
 
@@ -170,8 +221,8 @@ fn an_answer_that_is_lost_is_status_3() {
     let folder = Folder::new();
     let plan = &folder.file("plan", MEASURED);
     let refused = &folder.file("refused", "");
-    for (word, _) in WORDS {
-        let line = format!("cutlist {word} \"$1\"");
+    for (word, log, _) in WORDS {
+        let line = format!("cutlist {word} \"$1\"{}", behind(log));
         for plan in [plan, refused] {
             bash(&format!("{line} >/dev/full"), &[plan]).failed(3, &[LOST, "No space left"]);
             bash(&format!("{line} >&-"), &[plan]).failed(3, &[LOST, "Bad file descriptor"]);
@@ -183,6 +234,7 @@ fn an_answer_that_is_lost_is_status_3() {
             let status = Command::new(script())
                 .arg(word)
                 .arg(plan)
+                .args(place(log))
                 .stdout(writer)
                 .stderr(Stdio::null())
                 .status()
@@ -190,7 +242,7 @@ fn an_answer_that_is_lost_is_status_3() {
             assert_eq!(status.code(), Some(3));
         }
         // With nothing to print nothing is lost.
-        let missing = format!("cutlist {word} missing >&-");
+        let missing = format!("cutlist {word} missing{} >&-", behind(log));
         bash(&missing, &[]).failed(2, &["missing: No such file"]);
         let none = format!("cutlist {word} >/dev/full");
         bash(&none, &[]).failed(2, &[&format!("{word} needs a FILE")]);
@@ -202,14 +254,15 @@ fn messages_that_are_lost_change_nothing() {
     let folder = Folder::new();
     let plan = &folder.file("plan", MEASURED);
     let refused = &folder.file("refused", "");
-    for (word, answer) in WORDS {
+    for (word, log, answer) in WORDS {
+        let log = behind(log);
         for gone in ["2>/dev/full", "2>&-"] {
             for (file, status, out) in [
                 ("\"$1\"", 0, answer),
                 ("\"$2\"", 1, "refused 1\n"),
                 ("missing", 2, ""),
             ] {
-                let line = format!("cutlist {word} {file} {gone}");
+                let line = format!("cutlist {word} {file}{log} {gone}");
                 let ended = bash(&line, &[plan, refused]);
                 assert_eq!((ended.status, ended.out.as_str()), (Some(status), out));
             }
