@@ -1,17 +1,19 @@
 //! The list call beside the same method in ordinary Rust, on halls as they stand and with their
 //! points and cables numbered anew for each call; then the cost of a row in short lists and long
 //! ones, the slowest calls found, the useful part, which each list begins with, and the judging of a
-//! minimal cut; then the test of trimmed plans beside their trimming. All are measured in one run:
-//! medians over repeated calls in turn, the rows cleared before each list. A ratio is the library's
-//! time over that of the column before it, of trimmed plans that of the first of two columns over
-//! that of the second.
+//! minimal cut; then the test of trimmed plans beside their trimming; then link logs of ten million
+//! events beside the same method in ordinary Rust. All are measured in one run: medians over repeated
+//! calls in turn, the rows cleared before each list and the bytes before each log. A ratio is the
+//! library's time over that of the column before it, of trimmed plans that of the first of two columns
+//! over that of the second.
 //!
 //! cargo bench --offline
 //!
-//! The eleven-point hall alone, about a second; or trimmed plans alone:
+//! The eleven-point hall alone, about a second; or trimmed plans alone; or logs alone:
 //!
 //! cargo bench --offline -- --eleven
 //! cargo bench --offline -- --trimmed
+//! cargo bench --offline -- --replay
 //!
 //! With all or with the first, an earlier build of the library is measured in the same run if it is
 //! there as a shared object, by its whole path or as seen from this package:
@@ -20,7 +22,7 @@
 //! cargo bench --offline -- --before before.so
 //!
 //! It ends with 1 if a limit is exceeded, with 2 if nothing was measured, and in a panic if two of them
-//! list different rows.
+//! list different rows or write different bytes.
 //!
 //! The halls as plans, and small random ones behind them, for igraph_cuts.py:
 //!
@@ -39,12 +41,13 @@ use cutlist_tests::answers::{Nodes, Verdict};
 use cutlist_tests::halls;
 use cutlist_tests::plans;
 use cutlist_tests::record::Record;
+use cutlist_tests::reference::{DOWN, UP};
 use cutlist_tests::rng::Rng;
 use cutlist_tests::sys::capi::Build;
 use cutlist_tests::timer::Timer;
 use cutlist_tests::{ordinary, sides, sys};
 
-/// On the eleven-point hall the library may take so many times what ordinary Rust takes.
+/// On the eleven-point hall, and on a log, the library may take so many times what ordinary Rust takes.
 const MOST_RATIO: f64 = 2.0;
 
 /// From a thousand rows to a million the dearest row may cost so many times the cheapest.
@@ -123,6 +126,7 @@ enum Asked {
     All,
     Eleven,
     Trimmed,
+    Replay,
     Plans,
 }
 
@@ -140,6 +144,7 @@ impl Options {
             let again = match name.as_str() {
                 "--eleven" => asked.replace(Asked::Eleven).is_some(),
                 "--trimmed" => asked.replace(Asked::Trimmed).is_some(),
+                "--replay" => asked.replace(Asked::Replay).is_some(),
                 "--plans" => asked.replace(Asked::Plans).is_some(),
                 "--before" => before.replace(arguments.next()?).is_some(),
                 _ => return None,
@@ -762,6 +767,87 @@ fn trimmed(numbers: Numbers) -> Vec<(String, f64)> {
     dear
 }
 
+/// Events in each log that is played back, and the calls of each.
+const EVENTS: usize = 10_000_000;
+const REPLAYS: usize = 5;
+
+/// The logs: a name, the hall and the log. Where one cable goes down and up, each time that it goes down
+/// is a spread; where events are any, some are; where one event is repeated, the first alone may be.
+fn logs() -> [(&'static str, Record, Vec<u8>); 4] {
+    let mut rng = Rng::new(1);
+    let mut any = |hall: &Record| -> Vec<u8> {
+        let cables: Vec<u8> = hall.edges().map(|edge| edge as u8).collect();
+        let event = |_| [rng.pick(&[DOWN, UP]), rng.pick(&cables)];
+        (0..EVENTS).flat_map(event).collect()
+    };
+    let (bridge, eleven, line) = (halls::bridge(), halls::complete(11), halls::line(64, 1));
+    let (any_of_eleven, any_of_line) = (any(&eleven), any(&line));
+    let down_and_up = [DOWN, 2, UP, 2].repeat(EVENTS / 2);
+    [
+        ("bridge, a cable down and up", bridge.clone(), down_and_up),
+        ("every pair of 11, any events", eleven, any_of_eleven),
+        ("line of 64, any events", line, any_of_line),
+        (
+            "bridge, one event repeated",
+            bridge,
+            [DOWN, 2].repeat(EVENTS),
+        ),
+    ]
+}
+
+/// The table of logs: how many of a hundred events leave the room silent, the library's time and that
+/// of ordinary Rust, and how many million events the library plays back in a second. Gives the logs
+/// on which the library takes too many times what ordinary Rust takes, and the ratio.
+fn replays() -> Vec<(&'static str, f64)> {
+    let names = &LISTERS[..2];
+    println!(
+        "\n{:<32} {:>6} {:>6} {:>6} {:>5}{} {:>8}",
+        "logs of ten million events",
+        "points",
+        "cables",
+        "silent",
+        "calls",
+        headings(names, WIDTH),
+        "library"
+    );
+    let units = units(names, "ns/event", WIDTH);
+    println!("{:<46} {:>6} {:>5}{units} {:>8}", "", "%", "", "M/s");
+
+    let mut slow = Vec::new();
+    let (mut silent, mut plain) = (vec![0; EVENTS], vec![0; EVENTS]);
+    for (name, hall, log) in logs() {
+        let mut times = [Vec::new(), Vec::new()];
+        for _ in 0..REPLAYS {
+            silent.fill(7);
+            plain.fill(7);
+            let (answer, time) =
+                Timer::Processor.time(|| sys::replay_bare(&hall, &log, &mut silent));
+            assert_eq!(answer, (0, EVENTS), "{name}");
+            times[0].push(time);
+            let (answer, time) =
+                Timer::Processor.time(|| ordinary::replay(&hall, &log, &mut plain));
+            assert_eq!(answer, Ok(EVENTS), "{name}");
+            times[1].push(time);
+            assert!(silent == plain, "{name}");
+        }
+        let times = times.map(median);
+        let share = silent.iter().filter(|&&byte| byte == 1).count() as f64 / EVENTS as f64;
+        println!(
+            "{name:<32} {:>6} {:>6} {:>6.1} {REPLAYS:>5}{} {:>8.1}",
+            hall.nodes,
+            hall.present.count_ones(),
+            100.0 * share,
+            figures(&times, EVENTS, WIDTH),
+            EVENTS as f64 / times[0].as_secs_f64() / 1e6
+        );
+        let ratio = ratio(times[0], times[1]);
+        if ratio > MOST_RATIO {
+            slow.push((name, ratio));
+        }
+    }
+    slow
+}
+
 /// Prints the halls of the table, one without a route and small random ones, which have no name: the
 /// plan's bytes and the name.
 fn print_plans() {
@@ -782,7 +868,9 @@ fn main() -> ExitCode {
     // cargo adds an argument of its own.
     let arguments = env::args().skip(1).filter(|argument| argument != "--bench");
     let Some(options) = Options::of(arguments) else {
-        eprintln!("cargo bench --offline [-- [--eleven] [--before LIB.so] | --trimmed | --plans]");
+        eprintln!(
+            "cargo bench --offline [-- [--eleven] [--before LIB.so] | --trimmed | --replay | --plans]"
+        );
         return ExitCode::from(2);
     };
     let (all, asked) = (options.asked == Asked::All, options.asked);
@@ -831,6 +919,13 @@ fn main() -> ExitCode {
         exceeded.extend(dear.into_iter().flatten().map(|(name, ratio)| {
             format!(
                 "On the hall '{name}' the test of a trimmed plan takes {ratio:.2} times what trimming it takes, not less."
+            )
+        }));
+    }
+    if all || asked == Asked::Replay {
+        exceeded.extend(replays().into_iter().map(|(name, ratio)| {
+            format!(
+                "On the log '{name}' the library takes {ratio:.2} times what ordinary Rust takes, more than {MOST_RATIO}."
             )
         }));
     }
