@@ -14,6 +14,7 @@ use crate::sys;
 const HEADER: &str = include_str!("../../include/cutlist.h");
 const REFUSALS: &str = include_str!("../../crates/network/src/refusal.rt");
 const JUDGING: &str = include_str!("../../crates/connectivity/src/judging.rt");
+const REPLAY: &str = include_str!("../../crates/replay/src/lib.rt");
 const REFERENCE: &str = include_str!("../../rust/src/reference.rs");
 const READER_SPECIFIED: &str = include_str!("../../crates/format/specs/Format.antt");
 const RECORD_SPECIFIED: &str = include_str!("../../crates/network/specs/Record.antt");
@@ -197,8 +198,11 @@ fn commands_of_a_log_agree() {
     for (name, command) in [("DOWN", DOWN), ("UP", UP)] {
         let command = format!("0x{command:02X}");
         let header = between(HEADER, &format!("#define CUTLIST_{name} "), "\n");
-        let tested = between(REFERENCE, &format!("const {name}: u8 = "), ";");
-        assert_eq!((header, tested), (&command[..], &command[..]), "{name}");
+        assert_eq!(header, command, "header and crate");
+        for text in [REPLAY, REFERENCE] {
+            let stated = between(text, &format!("const {name}: u8 = "), ";");
+            assert_eq!(stated, command, "{name}");
+        }
     }
 }
 

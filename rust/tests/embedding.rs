@@ -117,7 +117,7 @@ fn the_library_has_no_memory_of_its_own_and_calls_only_to_copy_and_fill() {
             _ => panic!("{line}"),
         }
     }
-    assert!(functions >= 9, "{text}");
+    assert!(functions >= 10, "{text}");
 }
 
 /// Each function that takes or gives a record has a companion that does so with a struct.
@@ -138,7 +138,7 @@ fn the_header_declares_every_function_of_the_library() {
             on_records += 1;
         }
     }
-    assert!(functions >= 9 && on_records >= 8);
+    assert!(functions >= 10 && on_records >= 9);
 }
 
 #[test]
