@@ -771,9 +771,10 @@ fn trimmed(numbers: Numbers) -> Vec<(String, f64)> {
 const EVENTS: usize = 10_000_000;
 const REPLAYS: usize = 5;
 
-/// The logs: a name, the hall and the log. Where one cable goes down and up, each time that it goes down
-/// is a spread; where events are any, some are; where one event is repeated, the first alone may be.
-fn logs() -> [(&'static str, Record, Vec<u8>); 4] {
+/// The logs: a name, the hall and the log. Where one cable of the bridge goes down and up, each time that
+/// it goes down is a spread, and on the line each event is one, all the way to the room; where events
+/// are any, some are; where one event is repeated, the first alone is.
+fn logs() -> [(&'static str, Record, Vec<u8>); 5] {
     let mut rng = Rng::new(1);
     let mut any = |hall: &Record| -> Vec<u8> {
         let cables: Vec<u8> = hall.edges().map(|edge| edge as u8).collect();
@@ -782,9 +783,18 @@ fn logs() -> [(&'static str, Record, Vec<u8>); 4] {
     };
     let (bridge, eleven, line) = (halls::bridge(), halls::complete(11), halls::line(64, 1));
     let (any_of_eleven, any_of_line) = (any(&eleven), any(&line));
-    let down_and_up = [DOWN, 2, UP, 2].repeat(EVENTS / 2);
+    let down_and_up = |cable| [DOWN, cable, UP, cable].repeat(EVENTS / 2);
     [
-        ("bridge, a cable down and up", bridge.clone(), down_and_up),
+        (
+            "bridge, a cable down and up",
+            bridge.clone(),
+            down_and_up(2),
+        ),
+        (
+            "line of 64, the room's cable",
+            line.clone(),
+            down_and_up(62),
+        ),
         ("every pair of 11, any events", eleven, any_of_eleven),
         ("line of 64, any events", line, any_of_line),
         (
