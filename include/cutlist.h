@@ -14,7 +14,8 @@
  *   metres   the length of each cable in metres, 0 if it is not measured or the cable is absent
  *
  * Fill in both ends of every cable present: one whose ends are left 0 is no fault but a loop at point
- * 0, and is in no cut of the list. Metres change no useful part, no verdict and no list.
+ * 0, and is in no cut of the list. Metres change no useful part, no verdict, no list and nothing that
+ * is written for a log.
  *
  * struct cutlist_plan holds the fields together, and for each function that takes them one by one
  * there is an inline function that takes the struct: cutlist_plan_fault for cutlist_fault. A call of

@@ -1,5 +1,5 @@
-//! The one rule by which plans and logs are read: a name that ends in .hex is text, anything else and `-`,
-//! standard input, is bytes. An input is read once, whatever kind of file it is.
+//! The one rule by which plans and logs are read: a name that ends in .hex is text, anything else
+//! and `-`, standard input, is bytes. An input is read once, whatever kind of file it is.
 
 use std::ffi::OsStr;
 use std::fmt;
@@ -67,23 +67,16 @@ impl fmt::Display for Fault {
 
 /// The bytes that decide the plan of this name. If there is nothing to take, says why.
 pub fn plan(name: &OsStr) -> Option<Vec<u8>> {
-    taken(name, Taken::First(DECIDING))
+    read_or_say(name, Taken::First(DECIDING))
 }
 
 /// The whole log of this name. If there is nothing to take, says why.
 pub fn log(name: &OsStr) -> Option<Vec<u8>> {
-    taken(name, Taken::All(LONGEST_LOG))
+    read_or_say(name, Taken::All(LONGEST_LOG))
 }
 
-fn taken(name: &OsStr, taken: Taken) -> Option<Vec<u8>> {
-    let read = || {
-        let file = open(name)?;
-        match name.as_encoded_bytes().ends_with(TEXT) {
-            true => bytes_of(BufReader::new(file), taken),
-            false => bytes(file, taken),
-        }
-    };
-    match read() {
+fn read_or_say(name: &OsStr, taken: Taken) -> Option<Vec<u8>> {
+    match read(name, taken) {
         Ok(bytes) => Some(bytes),
         Err(fault) => {
             say(format_args!("{}: {fault}", shown(name)));
@@ -92,8 +85,16 @@ fn taken(name: &OsStr, taken: Taken) -> Option<Vec<u8>> {
     }
 }
 
-/// What is taken from an input of bytes. No more is read than shows it, so that an endless file has an
-/// answer.
+fn read(name: &OsStr, taken: Taken) -> Result<Vec<u8>, Fault> {
+    let file = open(name)?;
+    match name.as_encoded_bytes().ends_with(TEXT) {
+        true => bytes_of(BufReader::new(file), taken),
+        false => bytes(file, taken),
+    }
+}
+
+/// What is taken from an input of bytes. No more of it is read than that, or than shows that it is
+/// too long, so that an endless file has an answer.
 fn bytes(input: impl Read, taken: Taken) -> Result<Vec<u8>, Fault> {
     let mut bytes = Vec::new();
     match taken {
@@ -119,10 +120,9 @@ fn open(name: &OsStr) -> io::Result<File> {
     File::open(name)
 }
 
-/// What is taken of the bytes that a text stands for: tokens of whole bytes, two hexadecimal digits
-/// each, between spaces, tabs, line ends and comments, which begin with '#'. Where the first bytes are
-/// taken, the text is checked to its end: a fault anywhere in it says that it is not what it was taken
-/// for.
+/// What is taken from the bytes that a text stands for: tokens of whole bytes, two hexadecimal digits
+/// each, between spaces, tabs, line ends and comments, which begin with '#'. Unless it is too long it
+/// is checked to its end: a fault anywhere in it says that it is not what it was taken for.
 fn bytes_of(text: impl BufRead, taken: Taken) -> Result<Vec<u8>, Fault> {
     let mut bytes = Vec::new();
     let mut token = Token::default();

@@ -38,7 +38,7 @@
 //! assert_eq!(plan.metres(cut)?, 12);
 //! assert_eq!(plan.unmeasured(cut), EdgeSet(0b10000));
 //!
-//! // A link log: cable 3 goes down, cable 4 goes down, cable 3 comes up. The room was silent in between.
+//! // A link log: cables 3 and 4 go down, and cable 3 comes up. The room was silent in between.
 //! let log = [DOWN, 3, DOWN, 4, UP, 3];
 //! assert_eq!(plan.replay(&log)?, [false, true, false]);
 //!

@@ -765,7 +765,7 @@ mod tests {
         }
     }
 
-    /// Cables 0 and 1 go down, the second of them twice, and come up again.
+    /// A log of the bridge, with repeats: after the second event and the third the room is silent.
     const LOG: [u8; 14] = [DOWN, 0, DOWN, 1, DOWN, 1, UP, 0, UP, 0, DOWN, 4, UP, 1];
 
     #[test]

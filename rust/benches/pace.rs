@@ -3,9 +3,9 @@
 //! ones, the slowest calls found, the useful part, which each list begins with, and the judging of a
 //! minimal cut; then the test of trimmed plans beside their trimming; then link logs of ten million
 //! events beside the same method in ordinary Rust. All are measured in one run: medians over repeated
-//! calls in turn, the rows cleared before each list and the bytes before each log. A ratio is the
-//! library's time over that of the column before it, of trimmed plans that of the first of two columns
-//! over that of the second.
+//! calls in turn, the rows cleared before each list, and the bytes before each log. A ratio is the
+//! library's time over that of the column before it, of trimmed plans that of the first of two
+//! columns over that of the second.
 //!
 //! cargo bench --offline
 //!
@@ -47,7 +47,7 @@ use cutlist_tests::sys::capi::Build;
 use cutlist_tests::timer::Timer;
 use cutlist_tests::{ordinary, sides, sys};
 
-/// On the eleven-point hall, and on a log, the library may take so many times what ordinary Rust takes.
+/// On the eleven-point hall and on logs the library may take so many times what ordinary Rust takes.
 const MOST_RATIO: f64 = 2.0;
 
 /// From a thousand rows to a million the dearest row may cost so many times the cheapest.
@@ -772,8 +772,8 @@ const EVENTS: usize = 10_000_000;
 const REPLAYS: usize = 5;
 
 /// The logs: a name, the hall and the log. Where one cable of the bridge goes down and up, each time that
-/// it goes down is a spread, and on the line each event is one, all the way to the room; where events
-/// are any, some are; where one event is repeated, the first alone is.
+/// it goes down takes a spread; on the line each event does, all the way to the room; where events are
+/// any, some do; where one is repeated, the first alone does.
 fn logs() -> [(&'static str, Record, Vec<u8>); 5] {
     let mut rng = Rng::new(1);
     let mut any = |hall: &Record| -> Vec<u8> {

@@ -6,8 +6,8 @@ use crate::reference::{DOWN, UP};
 use crate::rng::Rng;
 
 /// A random log of so many bytes, without a fault but half an event at the end of an odd number of
-/// bytes. It begins with every shorter one of the same draws. A record without cables has no such log:
-/// it gets events of any.
+/// bytes. It begins with every shorter one of the same draws. A record without cables has no such
+/// log: it gets events of any.
 pub fn log(rng: &mut Rng, record: &Record, length: usize) -> Vec<u8> {
     let cables = spoken_of(rng, record);
     log_of(rng, cables, length)
@@ -32,7 +32,8 @@ pub fn log_of(rng: &mut Rng, cables: u64, length: usize) -> Vec<u8> {
     log
 }
 
-/// The cables that a log speaks of: all that are present, or fewer, which are down together more often.
+/// The cables that a log speaks of: all that are present, or fewer, which are down together more
+/// often.
 fn spoken_of(rng: &mut Rng, record: &Record) -> u64 {
     let fewer = match rng.once_in(2) {
         true => record.present,
@@ -98,8 +99,8 @@ pub fn unknown_command(rng: &mut Rng) -> u8 {
     }
 }
 
-/// A number that no cable of the record has: a free one, or one above all, of which the lowest six bits
-/// may be the number of a cable.
+/// A number that no cable of the record has: a free one, or one above all, of which the lowest six
+/// bits may be the number of a cable.
 pub fn absent_cable(rng: &mut Rng, record: &Record) -> u8 {
     let number = rng.byte() % SLOTS as u8;
     match record.holds(number.into()) || rng.once_in(2) {

@@ -201,8 +201,8 @@ fn assert_same_list(record: &Record, arrays: &Arrays, trimmed: bool, at: At) {
     }
 }
 
-/// What is written for a log is what is written elsewhere, with one byte less lent than it needs, with
-/// as many and with one more. Gives the refusal numbers.
+/// What is written for a log is what is written elsewhere, with one byte less lent than it needs,
+/// with as many and with one more. Gives the refusal numbers.
 fn assert_same_replay(record: &Record, arrays: &Arrays, log: &[u8], at: At) -> Vec<u8> {
     let bytes = Lent::new(log, at);
     let count = Lent::new(&[7usize], at);
@@ -349,8 +349,8 @@ fn the_reader_does_not_look_past_the_last_byte() {
     assert!(read > 1_500, "{read}");
 }
 
-/// Where the last page ends: every beginning of logs, the empty one and one byte among them, whole and
-/// damaged; and logs that are longer than a page.
+/// Where the last page ends: every beginning of logs, the empty one and one byte among them, whole
+/// and damaged; and logs that are longer than a page.
 #[test]
 fn no_log_is_looked_past() {
     let mut rng = Rng::new(113);

@@ -86,6 +86,28 @@ fn every_hall_is_added_up() {
     assert!(measured >= 4, "{measured} lengths");
 }
 
+/// Before any event the room of a hall is heard, unless its list is the one empty cut.
+#[test]
+fn every_hall_has_a_state_before_any_event() {
+    let folder = Folder::new();
+    let log = &folder.file("log", "");
+    let mut silent = 0;
+    for hall in halls() {
+        let ended = run(Command::new(script()).arg("replay").arg(&hall).arg(log));
+        let listed = cutlist(&[&hall]);
+        if listed.status == Some(1) {
+            assert_eq!((ended.status, ended.out), (listed.status, listed.out));
+            assert_eq!(ended.err, listed.err);
+        } else if listed.out.starts_with("cuts 1\n- | ") {
+            ended.listed("events 0\n0 | silent\n");
+            silent += 1;
+        } else {
+            ended.listed("events 0\n0 | heard\n");
+        }
+    }
+    assert!(silent >= 2, "{silent}");
+}
+
 #[test]
 fn a_hall_that_is_refused_by_its_name_is_refused_so() {
     let mut seen = 0;

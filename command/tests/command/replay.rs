@@ -1,4 +1,5 @@
-//! `cutlist replay PLAN LOG`: what each event did to the room, what is wrong with a log, and how it ends.
+//! `cutlist replay PLAN LOG`: what each event did to the room, what is wrong with a log, and how it
+//! ends.
 
 use std::fs::File;
 use std::path::{Path, PathBuf};

@@ -198,21 +198,21 @@ fn one_of(case: &Case, cuts: &[u64]) -> Option<u64> {
 }
 
 /// The logs to play back, each with the number of bytes to lend, from one less than there are whole
-/// events to two more: the log of the case, its whole events, those damaged, and, if the list is known,
-/// the log of a minimal cut that goes down and comes up.
+/// events to two more: the log of the case, its whole events, those damaged, and, if the list is
+/// known, the log of a minimal cut that goes down and comes up.
 pub fn logs(case: &Case, cuts: &[u64], rng: &mut Rng) -> Vec<(Vec<u8>, usize)> {
     let whole = case.log[..case.log.len() / 2 * 2].to_vec();
     let mut damaged = whole.clone();
     for _ in 0..=rng.below(2) {
         logs::damage(rng, &case.record, &mut damaged);
     }
-    let mut logs = vec![case.log.clone(), whole, damaged];
-    logs.extend(one_of(case, cuts).map(|cut| logs::down_and_up(rng, cut)));
-    let lent = |log: Vec<u8>| {
+    let mut all = vec![case.log.clone(), whole, damaged];
+    all.extend(one_of(case, cuts).map(|cut| logs::down_and_up(rng, cut)));
+    let with_lent = |log: Vec<u8>| {
         let lent = (log.len() / 2 + rng.below(4)).saturating_sub(1);
         (log, lent)
     };
-    logs.into_iter().map(lent).collect()
+    all.into_iter().map(with_lent).collect()
 }
 
 /// The numbers of cut rows and side rows to lend: those of the case, and exactly the rows needed, if
