@@ -93,20 +93,23 @@ fn asked(arguments: impl Iterator<Item = OsString>) -> Result<Asked, String> {
     let Some(word) = word else {
         return Ok(Asked::List(files(words)?));
     };
-    let Some((file, others)) = words.split_first() else {
+    let needs = |what| {
         let word = word.display();
-        return Err(format!(
-            "{word} needs a FILE; a file of that name is listed as ./{word}"
-        ));
+        Err(format!(
+            "{word} needs a {what}; a file of that name is listed as ./{word}"
+        ))
     };
-    if word == "trimmed" {
-        return Ok(Asked::Trimmed(files(words)?));
-    }
     if word == "replay" {
         return match &files(words)?[..] {
             [plan, log] => Ok(Asked::Replay(plan.clone(), log.clone())),
-            _ => Err("replay needs a PLAN and a LOG, and no other FILE".to_string()),
+            _ => needs("PLAN and a LOG, and no other FILE"),
         };
+    }
+    let Some((file, others)) = words.split_first() else {
+        return needs("FILE");
+    };
+    if word == "trimmed" {
+        return Ok(Asked::Trimmed(files(words)?));
     }
     let edges = match others {
         [] => None,

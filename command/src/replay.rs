@@ -10,15 +10,20 @@ use crate::answer::{self, Answer};
 use crate::input;
 use crate::status::Status;
 
-/// Plays back the log of one file on the plan of another. An error is one of standard output.
+/// Plays back the log of one file on the plan of another. A plan that has no answer has it before the
+/// log is looked at. An error is one of standard output.
 pub fn run(plan_file: &OsStr, log_file: &OsStr) -> io::Result<Status> {
-    let (Some(plan), Some(log)) = (input::plan(plan_file), input::log(log_file)) else {
+    let Some(plan) = input::plan(plan_file) else {
         return Ok(Status::Unread);
     };
-    match Plan::decode(&plan) {
-        Ok(plan) => answer::tell(log_file, "", Answer::of(Played::back(&plan, &log))),
-        Err(refusal) => answer::tell(plan_file, "", Answer::<String>::of(Err(refusal))),
-    }
+    let plan = match Plan::decode(&plan) {
+        Ok(plan) => plan,
+        Err(refusal) => return answer::tell(plan_file, "", Answer::<String>::of(Err(refusal))),
+    };
+    let Some(log) = input::log(log_file) else {
+        return Ok(Status::Unread);
+    };
+    answer::tell(log_file, "", Answer::of(Played::back(&plan, &log)))
 }
 
 /// A log, and whether the room is silent at first and after each event. Its lines are made as they

@@ -96,7 +96,7 @@ pub enum ListError {
     /// The call refused: [`Refusal::TooManyCuts`] if the plan has more minimal cuts than were asked
     /// for.
     Refused(Refusal),
-    /// There is no memory for the list.
+    /// There is no memory for the answer.
     Memory(TryReserveError),
 }
 
@@ -116,7 +116,7 @@ impl fmt::Display for ListError {
     fn fmt(&self, f: &mut fmt::Formatter<'_>) -> fmt::Result {
         match self {
             ListError::Refused(refusal) => refusal.fmt(f),
-            ListError::Memory(_) => f.write_str("no memory for the list"),
+            ListError::Memory(_) => f.write_str("no memory for the answer"),
         }
     }
 }

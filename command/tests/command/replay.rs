@@ -209,13 +209,14 @@ fn a_log_that_cannot_be_read_is_said() {
     played(plan, "log.hex", LOG).failed(2, &["log.hex: line 1: "]);
     bash("cutlist replay \"$1\" - <&-", &[plan]).failed(2, &["-: "]);
     bash("cutlist replay \"$1\" - 0>/dev/null", &[plan]).failed(2, &["-: Bad file descriptor"]);
-    // Both are looked at, whichever cannot be read.
+    // Where the plan has no answer the log is not looked at, nor waited for.
     let missing = &folder.0.join("missing");
     let ended = replay(missing, missing);
-    ended.failed(2, &[]);
-    assert_eq!(ended.err.lines().count(), 2, "{ended:?}");
+    ended.failed(2, &["missing: No such file"]);
+    assert_eq!(ended.err.lines().count(), 1, "{ended:?}");
     let refused = &folder.file("refused", "");
-    replay(refused, missing).failed(2, &["missing: No such file"]);
+    replay(refused, missing).refused(1, "the plan stops early");
+    bash("cutlist replay \"$1\" - < <(yes)", &[refused]).refused(1, "the plan stops early");
 }
 
 /// A log without an end, and one of one byte too many, are told as too long; one of as many as there
@@ -271,7 +272,7 @@ fn memory_that_is_not_there_is_an_error() {
     let with = |kib: u32| format!("ulimit -v {kib}; cutlist replay \"$1\" \"$2\"");
     // Not for the log, and not for the answer besides.
     bash(&with(40 << 10), &[plan, log]).failed(2, &["log: "]);
-    bash(&with(90 << 10), &[plan, log]).failed(3, &["log: no memory for the list"]);
+    bash(&with(90 << 10), &[plan, log]).failed(3, &["log: no memory for the answer"]);
     let text = &folder.file("log.hex", "4400".repeat(17 << 20));
     bash(&with(40 << 10), &[plan, text]).failed(2, &["log.hex: "]);
 }

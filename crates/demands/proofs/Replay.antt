@@ -2,13 +2,14 @@
 -- Assumes what the code's types say of the records.
 use mathlib.Core.List.{List}
 use mathlib.Core.Logic.{_⊎_, _↔_, Iff·trans}
-use mathlib.Core.Path.{_≡_, refl, ap₂, _∙_}
+use mathlib.Core.Path.{_≡_, refl, _∙_}
 use Prim.Native.Nat.{ℕ, suc, _<_}
 use native.Mathlib.Omega.{arith}
 use lib.ListN.{getD}
-use Rattle.bitset.specs.Members.{_⊆_, _∈_}
-use Rattle.bitset.proofs.Sets.{not-zero, in-insert, in-drop}
-use Rattle.bitset.proofs.Subsets.{zero-⊆}
+use denote.Floats.{is-true}
+use Rattle.bitset.specs.Members.{has, insert, _⊆_, _∈_}
+use Rattle.bitset.proofs.Sets.{not-zero, in-insert, in-drop, drop-none}
+use Rattle.bitset.proofs.Subsets.{⊆-refl, ⊆-antisym, ⊆-insert, insert-⊆, zero-⊆}
 use Rattle.network.specs.declared.Network.{Network}
 use Rattle.network.specs.Record.{Stored}
 use Rattle.graph.specs.Paths.{Minpath}
@@ -16,9 +17,9 @@ use Rattle.graph.specs.Cuts.{HoldsMincut}
 use Rattle.graph.specs.Lists.{CompleteList}
 use Rattle.graph.proofs.Cuts.{mincut-none}
 use Rattle.listing.specs.List.{cutRowsAfter}
-use Rattle.replay.specs.Log.{commandAt, edgeAt, changed, downAfter}
+use Rattle.replay.specs.Log.{commandAt, edgeAt, downAfter}
 use Rattle.replay.specs.Replay.{replayedBy, silentAfter, Tells}
-use Rattle.replay.proofs.Events.{changed-down, changed-up, changed-twice}
+use Rattle.replay.proofs.Events.{changed-down, changed-up}
 use Rattle.replay.proofs.Meaning.{replay-means}
 use Rattle.demands.specs.Replay.{LogPlayed}
 use Rattle.demands.proofs.DemandTwo.{demand-two}
@@ -55,10 +56,16 @@ module _ (log : List ℕ) (n : ℕ) where
   unfolding downAfter
   up k e = rw (changed-up (commandAt log n) before (edgeAt log n) (λ f. omega arith)) (in-drop before (edgeAt log n) k)
 
-  repeated : commandAt log (suc n) ≡ commandAt log n → edgeAt log (suc n) ≡ edgeAt log n → downAfter log (suc (suc n)) ≡ downAfter log (suc n)
+  down-again : commandAt log n ≡ 0x44 → edgeAt log n ∈ before → downAfter log (suc n) ≡ before
   unfolding downAfter
-  repeated e f =
-      ap₂ (λ c k. changed c (downAfter log (suc n)) k) e f ∙ changed-twice (commandAt log n) before (edgeAt log n)
+  down-again e m =
+      let k = edgeAt log n in
+      changed-down (commandAt log n) before k e
+      ∙ ⊆-antisym (insert before k) before (insert-⊆ before before k (⊆-refl before) (is-true (has before k) m)) (⊆-insert before k)
+
+  up-again : commandAt log n ≡ 0x55 → (edgeAt log n ∈ before → ⊥) → downAfter log (suc n) ≡ before
+  unfolding downAfter
+  up-again e off = changed-up (commandAt log n) before (edgeAt log n) (λ f. omega arith) ∙ drop-none before (edgeAt log n) off
 
 pub log-played : LogPlayed
 unfolding downAfter
@@ -71,5 +78,6 @@ log-played = record {
   first = λ log k. not-zero k;
   down = down;
   up = up;
-  repeated = repeated;
+  down-again = down-again;
+  up-again = up-again;
 }

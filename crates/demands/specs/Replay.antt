@@ -27,11 +27,12 @@ pub record LogPlayed : Type 0 where
   -- Without a route every byte is 1.
   pub no-route : (N : Network) → Stored N → (log lent : List ℕ) → replayedBy N log lent .refusal ≡ 0 → ((r : ℕ) → Minpath N r → ⊥)
       → (i : ℕ) → i < replayedBy N log lent .count → getD (silentAfter N log lent) i 0 ≡ 1
-  -- At first no cable is down; down adds its cable, up takes it away, and to repeat either changes nothing.
+  -- At first no cable is down; down adds its cable, up takes it away, and to take down a cable that is down, or up one that is up, changes
+  -- nothing.
   pub first : (log : List ℕ) (k : ℕ) → k ∈ downAfter log 0 → ⊥
   pub down : (log : List ℕ) (n k : ℕ) → commandAt log n ≡ 0x44
       → (k ∈ downAfter log (suc n)) ↔ ((k ∈ downAfter log n) ⊎ (k ≡ edgeAt log n))
   pub up : (log : List ℕ) (n k : ℕ) → commandAt log n ≡ 0x55
       → (k ∈ downAfter log (suc n)) ↔ ((k ∈ downAfter log n) × (k ≡ edgeAt log n → ⊥))
-  pub repeated : (log : List ℕ) (n : ℕ) → commandAt log (suc n) ≡ commandAt log n → edgeAt log (suc n) ≡ edgeAt log n
-      → downAfter log (suc (suc n)) ≡ downAfter log (suc n)
+  pub down-again : (log : List ℕ) (n : ℕ) → commandAt log n ≡ 0x44 → edgeAt log n ∈ downAfter log n → downAfter log (suc n) ≡ downAfter log n
+  pub up-again : (log : List ℕ) (n : ℕ) → commandAt log n ≡ 0x55 → (edgeAt log n ∈ downAfter log n → ⊥) → downAfter log (suc n) ≡ downAfter log n

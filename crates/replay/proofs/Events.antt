@@ -16,9 +16,6 @@ use lib.Dec.{T, eqb}
 use lib.ListN.{length}
 use Rattle.sequences.proofs.Tests.{T-or, T-eqb}
 use Rattle.bitset.specs.Members.{has, _∈_, _⊆_, insert, _∖_}
-use Rattle.bitset.proofs.Members.{has-inserted}
-use Rattle.bitset.proofs.Subsets.{⊆-refl, ⊆-antisym, ⊆-insert, insert-⊆}
-use Rattle.bitset.proofs.Sets.{in-drop, drop-none}
 use Rattle.network.specs.Record.{_when_, _then_}
 use Rattle.network.proofs.Refusals.{then-none, none-then, some-then, when-none, none-when, some-when, row-none, none-row, row-first, row-step}
 use Rattle.replay.specs.Log.{eventCount, commandAt, edgeAt, changed, isCommand, eventFault, eventsFault, logFault, Command, GoodEvents, LogRules}
@@ -33,17 +30,6 @@ changed-down c d k e = ap (λ (x : ℕ). changed x d k) e
 pub changed-up : (c d k : ℕ) → (c ≡ 0x44 → ⊥) → changed c d k ≡ d ∖ 2 ^ k
 unfolding changed
 changed-up c d k f = ap (λ (b : Bool). elim b [ true ↦ insert d k | false ↦ d ∖ 2 ^ k ]) (ne-eqb c 0x44 f)
-
--- To repeat an event changes nothing.
-pub changed-twice : (c d k : ℕ) → changed c (changed c d k) k ≡ changed c d k
-changed-twice c d k = go (ℕ-discrete c 0x44)
-  where
-    go : Dec (c ≡ 0x44) → changed c (changed c d k) k ≡ changed c d k
-    go (yes e) =
-        let with : ℕ = insert d k in
-        rw (changed-down c d k e, changed-down c with k e)
-        (⊆-antisym (insert with k) with (insert-⊆ with with k (⊆-refl with) (has-inserted d k)) (⊆-insert with k))
-    go (no f) = rw (changed-up c d k f, changed-up c (d ∖ 2 ^ k) k f) (drop-none (d ∖ 2 ^ k) k (λ m. in-drop d k k .0 m .1 refl))
 
 -- ---- an event's fault
 
@@ -126,6 +112,21 @@ pub data LogCase (p : ℕ) (log : List ℕ) : ℕ → Type 0 where
   half : GoodEvents p log (eventCount log) → (length log % 2 ≡ 0 → ⊥) → LogCase p log 16
 
 module _ (p : ℕ) (log : List ℕ) where
+  -- A log's fault is that of an event, if some event has one;
+  pub log-event : {r : ℕ} → 0 < r → eventsFault p log 0 (eventCount log) ≡ r → logFault p log ≡ r
+  unfolding logFault
+  log-event {r} some e = rw e (some-then r _ some)
+
+  -- otherwise 16 for half an event,
+  pub log-half : eventsFault p log 0 (eventCount log) ≡ 0 → (length log % 2 ≡ 0 → ⊥) → logFault p log ≡ 16
+  unfolding logFault
+  log-half e odd = none-then _ e ∙ some-when 16 (ap not (ne-eqb (length log % 2) 0 odd))
+
+  -- and none if there is none.
+  pub log-none : eventsFault p log 0 (eventCount log) ≡ 0 → length log % 2 ≡ 0 → logFault p log ≡ 0
+  unfolding logFault
+  log-none e whole = none-then _ e ∙ none-when 16 (ap not (eq-eqb (length log % 2) 0 whole))
+
   -- A log has no fault exactly if it keeps the rules.
   pub log-rules : (logFault p log ≡ 0) ↔ LogRules p log
   unfolding logFault
@@ -136,7 +137,7 @@ module _ (p : ℕ) (log : List ℕ) where
           whole = eqb-true _ _ (not-false _ (when-none 16 _ (omega arith) (parts .1)));
           good = events-good p log (eventCount log) .0 (parts .0);
         },
-    λ r. none-then _ (events-good p log (eventCount log) .1 (r .good)) ∙ none-when 16 (ap not (eq-eqb _ _ (r .whole))),
+    λ r. log-none (events-good p log (eventCount log) .1 (r .good)) (r .whole),
   )
 
   -- Every log is one of the cases.
@@ -153,13 +154,13 @@ module _ (p : ℕ) (log : List ℕ) where
       go : Dec (eventsFault p log 0 (eventCount log) ≡ 0) → Dec (length log % 2 ≡ 0) → LogCase p log (logFault p log)
       go (no f) d =
           let (i, l, before, here) = events-first p log (eventCount log) f in
-          let found : logFault p log ≡ eventFault p (commandAt log i) (edgeAt log i) = some-then _ _ (omega arith) ∙ here in
+          let found : logFault p log ≡ eventFault p (commandAt log i) (edgeAt log i) = log-event (omega arith) refl ∙ here in
           subst (LogCase p log) (sym found) (faulty i l before (event-case p log i) (λ e. f (here ∙ e)))
       go (yes e) (yes whole) =
           let r : LogRules p log = record { whole = whole; good = events-good p log (eventCount log) .0 e } in
           subst (LogCase p log) (sym (log-rules .1 r)) (good r)
       go (yes e) (no odd) =
-          subst (LogCase p log) (sym (none-then _ e ∙ some-when 16 (ap not (ne-eqb _ _ odd)))) (half (events-good p log (eventCount log) .0 e) odd)
+          subst (LogCase p log) (sym (log-half e odd)) (half (events-good p log (eventCount log) .0 e) odd)
 
   -- Where the events are good, more edges make no other fault.
   pub log-more : (q : ℕ) → p ⊆ q → GoodEvents p log (eventCount log) → logFault q log ≡ logFault p log

@@ -1,14 +1,13 @@
--- The steps of the code over plain values: the log's fault on each way out, and the turns of playing it back.
+-- The steps of the code that plays a log back, over plain values.
 -- Assumes nothing.
 --
 --   Turn N log lent now down severs i    before event i: the edges down, whether they sever, and the bytes written so far onto `lent`
-use mathlib.Core.Bool.{Bool, not}
+use mathlib.Core.Bool.{Bool}
 use mathlib.Core.List.{List}
 use mathlib.Core.Path.{_≡_, refl, sym, ap, _∙_}
-use Prim.Native.Nat.{ℕ, suc, _+_, _%_, _≤_, _<_, zero-le}
+use Prim.Native.Nat.{ℕ, suc, _+_, _≤_, _<_, zero-le}
 use native.Mathlib.Numerals.{add-one}
 use native.Mathlib.Omega.{arith}
-use borrow.Author.Tests.{eq-eqb, ne-eqb}
 use lib.ListN.{length, take, set}
 use lib.Seq.{take-length, length-take-le}
 use Rattle.sequences.specs.Words.{onto}
@@ -16,31 +15,10 @@ use Rattle.sequences.proofs.Places.{getD-tabulate}
 use Rattle.sequences.proofs.Stores.{onto-next}
 use Rattle.sequences.proofs.Words.{length-onto}
 use Rattle.network.specs.declared.Network.{Network}
-use Rattle.network.proofs.Refusals.{none-then, some-then, none-when, some-when}
 use Rattle.graph.specs.CutTests.{severed}
-use Rattle.replay.specs.Log.{eventCount, commandAt, edgeAt, changed, downAfter, eventsFault, logFault}
+use Rattle.replay.specs.Log.{eventCount, commandAt, edgeAt, changed, downAfter}
 use Rattle.replay.specs.Replay.{byteOf, silentByte, silentBytes}
 use Rattle.replay.proofs.Meaning.{bytes-count}
-
--- ---- the log's fault
-
-module _ (p : ℕ) (log : List ℕ) where
-  -- It is that of an event, if some event has one;
-  pub log-event : (r : ℕ) → 0 < r → eventsFault p log 0 (eventCount log) ≡ r → logFault p log ≡ r
-  unfolding logFault
-  log-event r some e = rw e (some-then r _ some)
-
-  -- otherwise 16 for half an event,
-  pub log-half : eventsFault p log 0 (eventCount log) ≡ 0 → (length log % 2 ≡ 0 → ⊥) → logFault p log ≡ 16
-  unfolding logFault
-  log-half e half = none-then _ e ∙ some-when 16 (ap not (ne-eqb (length log % 2) 0 half))
-
-  -- and none if there is none.
-  pub log-none : eventsFault p log 0 (eventCount log) ≡ 0 → length log % 2 ≡ 0 → logFault p log ≡ 0
-  unfolding logFault
-  log-none e whole = none-then _ e ∙ none-when 16 (ap not (eq-eqb (length log % 2) 0 whole))
-
--- ---- playing it back
 
 pub record Turn (N : Network) (log lent now : List ℕ) (down : ℕ) (severs : Bool) (i : ℕ) : Type 0 where
   pub event : i ≤ eventCount log

@@ -10,8 +10,7 @@ use Rattle.network.specs.Record.{_then_}
 use Rattle.network.proofs.Refusals.{none-then, some-then}
 use borrow.Author.Needs.{needs}
 use Rattle.replay.specs.Log.{eventCount, eventsFault}
-use Rattle.replay.proofs.Events.{events-step}
-use Rattle.replay.proofs.Steps.{log-event, log-half, log-none}
+use Rattle.replay.proofs.Events.{events-step, log-event, log-half, log-none}
 use Rattle.replay.proofs.log_fault.Statement.{statement}
 use Rattle.replay.proofs.log_fault.Tie as tie
 
@@ -73,7 +72,7 @@ returns : tie.Need-returns Inv-loop μ-loop
 returns c =
     let r = c .before .event-fault .result in
     let some : 0 < r = omega (arith, c .if1 .taken) in
-    sym (log-event _ _ r some (step (c .before) ∙ some-then r _ some))
+    sym (log-event _ _ some (step (c .before) ∙ some-then r _ some))
 
 add-at : tie.Need-add-at Inv-loop μ-loop
 add-at c = search needs
