@@ -5,8 +5,8 @@ use network::Network;
 use node_set::NodeSet;
 use spread::reach;
 ghost use mathlib.Core.Path.{_≡_};
-ghost use Rattle.network.specs.Record.{faultOf};
 ghost use Rattle.bitset.specs.Decides.{Decides};
+ghost use Rattle.network.specs.Record.{faultOf};
 ghost use Rattle.graph.specs.CutTests.{severed, Settled};
 
 // Whether without the edges of the set the source does not reach the sink.
