@@ -1,9 +1,21 @@
 //! Random link logs, and damage to them.
 
 use crate::brute::members;
+use crate::halls;
+use crate::plans;
 use crate::record::{Record, SLOTS};
 use crate::reference::{DOWN, UP};
 use crate::rng::Rng;
+
+/// Records to play logs back on: with few cables, with all 64, with none, and any.
+pub fn records(rng: &mut Rng) -> [Record; 4] {
+    [
+        halls::bridge(),
+        halls::two_points(64),
+        halls::two_points(0),
+        plans::record(rng),
+    ]
+}
 
 /// A random log of so many bytes, without a fault but half an event at the end of an odd number of
 /// bytes. It begins with every shorter one of the same draws. A record without cables has no such

@@ -355,12 +355,7 @@ fn the_reader_does_not_look_past_the_last_byte() {
 fn no_log_is_looked_past() {
     let mut rng = Rng::new(113);
     let mut tally = Tally::default();
-    for record in [
-        halls::bridge(),
-        halls::two_points(64),
-        halls::two_points(0),
-        plans::record(&mut rng),
-    ] {
+    for record in logs::records(&mut rng) {
         for at in [At::Start, At::End] {
             let arrays = Arrays::of(&record, at);
             let mut played = |log: &[u8]| {

@@ -35,6 +35,12 @@ const WORDS: [(&str, Option<&str>, &str); 3] = [
     ("replay", Some("logs/bridge.hex"), PLAYED),
 ];
 
+/// What is said where nothing stands behind a word, that takes a log or does not.
+fn needs(word: &str, log: Option<&str>) -> String {
+    let files = log.map_or("FILE", |_| "PLAN and a LOG");
+    format!("{word} needs a {files}")
+}
+
 /// Where a log of the repository stands, if there is one.
 fn place(log: Option<&str>) -> Option<PathBuf> {
     log.map(|log| root().join(log))
@@ -105,11 +111,11 @@ fn no_beginning_of_a_plan_has_an_answer() {
 
 #[test]
 fn a_file_must_be_named() {
-    for (word, ..) in WORDS {
+    for (word, log, _) in WORDS {
         for words in [&[word][..], &[word, "--"]] {
             let ended = run(Command::new(script()).args(words));
-            let needs = format!("{word} needs a ");
-            ended.failed(2, &[&needs, &format!("./{word}"), "Usage: cutlist"]);
+            let file = format!("./{word}");
+            ended.failed(2, &[&needs(word, log), &file, "Usage: cutlist"]);
         }
     }
 }
@@ -208,7 +214,7 @@ fn a_file_that_is_called_as_a_word_is_listed() {
         asked(&["--", word], None).listed(BRIDGE_LIST);
         let both = format!("plan:\n{BRIDGE_LIST}{word}:\n{BRIDGE_LIST}");
         asked(&["plan", word], None).listed(&both);
-        asked(&[word], None).failed(2, &[&format!("{word} needs a ")]);
+        asked(&[word], None).failed(2, &[&needs(word, log)]);
         for (other, log, answer) in WORDS {
             asked(&[other, word], log).listed(answer);
         }
@@ -245,7 +251,7 @@ fn an_answer_that_is_lost_is_status_3() {
         let missing = format!("cutlist {word} missing{} >&-", behind(log));
         bash(&missing, &[]).failed(2, &["missing: No such file"]);
         let none = format!("cutlist {word} >/dev/full");
-        bash(&none, &[]).failed(2, &[&format!("{word} needs a ")]);
+        bash(&none, &[]).failed(2, &[&needs(word, log)]);
     }
 }
 
