@@ -17,7 +17,7 @@ use Rattle.network.specs.declared.Network.{Network}
 use Rattle.network.specs.Record.{_when_, _then_, sizeFault, outsideFault, bare, withEdge}
 use Rattle.format.specs.Format.{numberFault, sizeRefusal, terminalsRefusal, edgeRefusal, endRefusal, sizeStep, terminalsStep, edgeStep, lengthStep, lengthSize, ifTaken, edges, decodeUpTo, decodeOf}
 use Rattle.format.proofs.Reading.{accepts, decode-plan}
-use Rattle.sequences.specs.Counts.{countIf}
+use Rattle.sequences.specs.Counts.{countIf, tally}
 use Rattle.widths.specs.Widths.{widthsOf}
 use Rattle.graph.specs.Cuts.{only, Cut, Mincut}
 use Rattle.graph.specs.Reach.{addIf, across, roundOver, rounds, reachOf}
@@ -84,7 +84,7 @@ hall-right h t =
 
 -- Every hall of the table passes the test.
 halls-pass : T (every hallTest halls)
-unfolding has insert _∖_ size subsets countIf tabulate widthsOf _when_ _then_ sizeFault outsideFault bare withEdge numberFault sizeRefusal terminalsRefusal edgeRefusal endRefusal sizeStep terminalsStep edgeStep lengthStep lengthSize ifTaken edges decodeUpTo only membersFrom addIf across roundOver rounds reachOf severed every cutTest allNeeded mincutTest chosen twoIn edgesWithin past pastAll relevantNodes relevantEdges sourceSideOf passing mincuts digits decimal spaced numbers lineUpTo wordLine rowLines listText listReport reportOf bridge barCable spur hangingTriangle noCable twoCables inARow exchanged halls same judgedTest hallTests hallTest
+unfolding has insert _∖_ size subsets countIf tabulate tally widthsOf _when_ _then_ sizeFault outsideFault bare withEdge numberFault sizeRefusal terminalsRefusal edgeRefusal endRefusal sizeStep terminalsStep edgeStep lengthStep lengthSize ifTaken edges decodeUpTo only membersFrom addIf across roundOver rounds reachOf severed every cutTest allNeeded mincutTest chosen twoIn edgesWithin past pastAll relevantNodes relevantEdges sourceSideOf passing mincuts digits decimal spaced numbers lineUpTo wordLine rowLines listText listReport reportOf bridge barCable spur hangingTriangle noCable twoCables inARow exchanged halls same judgedTest hallTests hallTest
 halls-pass = tt
 
 -- So what it says of each hall is established.

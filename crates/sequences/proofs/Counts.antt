@@ -3,7 +3,7 @@
 use mathlib.Core.Path.{_≡_, refl}
 use mathlib.Core.Logic.{_⊎_, inl, inr}
 use mathlib.Core.Bool.{Bool, true, false}
-use mathlib.Core.List.{List, [], _∷_, _++_, List·Memᴰ, List·Memᴰ·head, List·Memᴰ·tail, List·Memᴰ·not-nil, List·Memᴰ·cases-cons, Memᴰ·cast}
+use mathlib.Core.List.{List, [], _∷_, _++_, map, List·Memᴰ, List·Memᴰ·head, List·Memᴰ·tail, List·Memᴰ·not-nil, List·Memᴰ·cases-cons, Memᴰ·cast}
 use Prim.Native.Nat.{ℕ, zero, suc, _+_, _≤_, _<_, zero-le}
 use native.Mathlib.Nat.{not-suc-le-zero, le-of-suc-le-suc}
 use native.Mathlib.Omega.{arith}
@@ -68,6 +68,11 @@ module _ {A : Type 0} (p : A → Bool) where
           → (a : A) × List·Memᴰ a (x ∷ l) × (p a ≡ true)
       go rest true e k = (x, List·Memᴰ·head refl, e)
       go rest false e k = let (a, m, t) = rest (omega arith) in (a, List·Memᴰ·tail m, t)
+
+-- The values that pass are those of the members whose value passes.
+pub count-map : {A B : Type 0} (p : B → Bool) (f : A → B) (l : List A) → countIf p (map f l) ≡ countIf (λ x. p (f x)) l
+count-map p f [] = rw (count-nil p, count-nil (λ x. p (f x)))
+count-map p f (x ∷ l) = rw (count-cons p (f x) (map f l), count-cons (λ y. p (f y)) x l, count-map p f l)
 
 module _ {A : Type 0} where
   -- What stands at j is kept where it is copied to i.

@@ -3,6 +3,7 @@ pub mod Tests
 pub mod Places
 pub mod Distinct
 pub mod Counts
+pub mod Tally
 pub mod Words
 pub mod Rising
 pub mod Stores

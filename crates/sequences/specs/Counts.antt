@@ -1,14 +1,18 @@
--- Sums, how many members of a list pass a test, and lists that differ in the order of their members alone.
+-- Sums, how many members of a list pass a test, lists that differ in the order of their members alone, and how often each number stands
+-- in a list.
 -- To believe.
 --
 --   sum l                the sum of the numbers of l
 --   bit b                1 if b holds, else 0  [working]
 --   countIf p l          how many members of l pass the test p
 --   Permutation l m      each test is passed by as many members of l as of m; so each member stands in both equally often  [working]
+--   tally n l            for each number below n, how often it stands in l
 use mathlib.Core.Path.{_≡_}
 use mathlib.Core.Bool.{Bool, true, false}
 use mathlib.Core.List.{List, [], _∷_}
 use Prim.Native.Nat.{ℕ, suc, _+_}
+use lib.Dec.{eqb}
+use Rattle.sequences.specs.Words.{tabulate}
 
 unfoldable pub sum : List ℕ → ℕ
 sum [] = 0
@@ -25,3 +29,6 @@ module _ {A : Type 0} where
 
   abbrev pub Permutation : List A → List A → Type 0
   Permutation l m = (p : A → Bool) → countIf p l ≡ countIf p m
+
+unfoldable pub tally : ℕ → List ℕ → List ℕ
+tally n l = tabulate n (λ w. countIf (eqb w) l)

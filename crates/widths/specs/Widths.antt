@@ -2,12 +2,10 @@
 -- To believe.
 --
 --   widthsOf cuts        for each width from 0 to 64, how many of the cuts have it
-use mathlib.Core.List.{List}
+use mathlib.Core.List.{List, map}
 use Prim.Native.Nat.{ℕ}
-use lib.Dec.{eqb}
 use Rattle.bitset.specs.Members.{size}
-use Rattle.sequences.specs.Words.{tabulate}
-use Rattle.sequences.specs.Counts.{countIf}
+use Rattle.sequences.specs.Counts.{tally}
 
 unfoldable pub widthsOf : List ℕ → List ℕ
-widthsOf cuts = tabulate 65 (λ w. countIf (λ c. eqb w (size 64 c)) cuts)
+widthsOf cuts = tally 65 (map (size 64) cuts)

@@ -45,8 +45,7 @@ add-counts c =
     let turn = c .before .before .before in
     let cuts = turn .before .before .args .cuts .now in
     let now = turn .loop in
-    let lt = width-lt _ (c .width .ensures) in
-    let few = widths-le cuts (now .counts) (now .i) (c .width .result) (now .inv .counted) (search needs) lt in
+    let few = widths-le cuts (now .counts) (now .i) (c .width .result) (now .inv .counted) (search needs) in
     record { fits = omega (arith, few) }
 
 array-write-counts : tie.Need-array-write-counts Inv-loop μ-loop
