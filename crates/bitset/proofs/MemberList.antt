@@ -1,20 +1,23 @@
--- The list of the members of a set: it rises, and has exactly the members; so the lowest comes first, and then those of the set without it.
+-- The list of the members of a set: it rises, and has exactly the members; so the lowest comes first, and then those of the set without it;
+-- and it is as long as there are members.
 -- Assumes nothing.
 use mathlib.Core.Path.{_≡_, refl, sym}
 use mathlib.Core.Bool.{Bool, true, false}
 use mathlib.Core.List.{List, [], _∷_, Pairwise·nil, Pairwise·cons, List·Memᴰ, List·Memᴰ·head, List·Memᴰ·tail, List·Memᴰ·not-nil, List·Memᴰ·cases-cons}
 use mathlib.Core.Logic.{inl, inr, _↔_, Iff·trans, Iff·symm, ∥∥₁-elim}
 use Prim.Native.Nat.{ℕ, zero, suc, _+_, _^_, _≤_, _<_, zero-le}
-use native.Mathlib.Nat.{eq-or-lt-of-le}
+use native.Mathlib.Nat.{add-zero, zero-add, add-suc, suc-add, eq-or-lt-of-le}
 use native.Mathlib.Bridge.{le-prop}
 use native.Mathlib.Decide.{ℕ-discrete}
 use native.Mathlib.Omega.{arith}
 use borrow.Author.Tests.{ltb-true}
 use lib.Dec.{ltb}
+use lib.ListN.{length}
 use Rattle.sequences.specs.Rising.{Rising}
 use Rattle.sequences.proofs.Rising.{rising-unique}
-use Rattle.bitset.specs.Members.{has, _∈_, membersFrom, members, Lowest}
+use Rattle.bitset.specs.Members.{has, _∈_, size, membersFrom, members, Lowest}
 use Rattle.bitset.proofs.Members.{has-bounded}
+use Rattle.bitset.proofs.Size.{size-none, size-suc}
 use Rattle.bitset.proofs.Sets.{member-lt}
 
 -- The list of the members from k on has exactly those.
@@ -99,3 +102,28 @@ members-past w d s h =
       λ m. let p = in-members w s j .0 m in (p .0, omega arith),
       λ p. in-members w s j .1 (p .0, member-lt w s j h (p .0)),
     ))
+
+-- Nor does it count one there.
+size-past : (w d s : ℕ) → s < 2 ^ w → size (d + w) s ≡ size w s
+size-past w zero s h = rw (zero-add w)
+size-past w (suc d) s h = rw (suc-add d w, size-suc (d + w) s, has-bounded w h (d + w) (omega arith)) (omega (arith, size-past w d s h))
+
+-- The list of the members from k on is as long as there are members there.
+length-membersFrom : (s k n : ℕ) → length (membersFrom s k n) + size k s ≡ size (n + k) s
+unfolding membersFrom
+length-membersFrom s k zero = rw (zero-add k, zero-add (size k s))
+length-membersFrom s k (suc n) = go (ltb s (2 ^ k)) refl (has s k) refl (rw (add-suc n k, ← suc-add n k) at (length-membersFrom s (suc k) n))
+  where
+    go : (a : Bool) → ltb s (2 ^ k) ≡ a → (b : Bool) → has s k ≡ b
+        → length (membersFrom s (suc k) n) + size (suc k) s ≡ size (suc n + k) s
+        → length {A = ℕ} (elim a as (λ x. List ℕ) [
+          | true ↦ []
+          | false ↦ elim b as (λ x. List ℕ) [ true ↦ k ∷ membersFrom s (suc k) n | false ↦ membersFrom s (suc k) n ]
+        ]) + size k s ≡ size (suc n + k) s
+    go true e b f rest = omega (arith, size-past k (suc n) s (ltb-true s (2 ^ k) e))
+    go false e true f rest = omega (arith, rw f at (size-suc k s))
+    go false e false f rest = omega (arith, rw f at (size-suc k s))
+
+-- The list of the members is as long as there are members.
+pub length-members : (w s : ℕ) → length (members w s) ≡ size w s
+length-members w s = omega (arith, size-none s, rw (add-zero w) at (length-membersFrom s 0 w))

@@ -17,7 +17,7 @@ use Rattle.bitset.proofs.Members.{has-first, first-digit, has-next, has
 use Rattle.bitset.proofs.Subsets.{insert-⊆}
 
 -- Nothing stands below 0.
-size-none : (s : ℕ) → size 0 s ≡ 0
+pub size-none : (s : ℕ) → size 0 s ≡ 0
 unfolding size
 size-none s = refl
 

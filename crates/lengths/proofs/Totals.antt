@@ -1,15 +1,13 @@
 -- The total, member by member, and the call's answer.
 -- Assumes nothing.
-use mathlib.Core.Bool.{Bool, true, false}
-use mathlib.Core.List.{List, [], _∷_}
 use mathlib.Core.Path.{_≡_, sym, ap, _∙_}
-use Prim.Native.Nat.{ℕ, zero, suc, _+_, _*_, _^_, _≤_, _<_, zero-le}
+use Prim.Native.Nat.{ℕ, suc, _+_, _*_, _≤_, _<_}
 use native.Mathlib.Omega.{arith}
-use lib.Dec.{ltb}
 use lib.ListN.{length}
 use Rattle.sequences.specs.Counts.{sum}
-use Rattle.bitset.specs.Members.{has, members, membersFrom, Lowest}
-use Rattle.bitset.proofs.MemberList.{members-none, members-first}
+use Rattle.bitset.specs.Members.{members, Lowest}
+use Rattle.bitset.proofs.MemberList.{members-none, members-first, length-members}
+use Rattle.bitset.proofs.Size.{size-le}
 use Rattle.bitset.proofs.Scans.{Less}
 use Rattle.network.specs.declared.Network.{Network}
 use Rattle.network.specs.Record.{setFault, metresOf, Stored}
@@ -37,22 +35,8 @@ pub members-less : (c k d : ℕ) → k < 64 → Lowest 64 c k → Less c k d →
 members-less c k d h low less = ap length (members-first 64 c d k h low (less .rest))
 
 -- A set has at most as many members as there are numbers.
-members-count : (s n k : ℕ) → length (membersFrom s k n) ≤ n
-unfolding membersFrom
-members-count s zero k = zero-le
-members-count s (suc n) k = go (ltb s (2 ^ k)) (has s k) (members-count s n (suc k))
-  where
-    go : (a b : Bool) → length (membersFrom s (suc k) n) ≤ n
-        → length {A = ℕ} (elim a as (λ x. List ℕ) [
-          | true ↦ []
-          | false ↦ elim b as (λ x. List ℕ) [ true ↦ k ∷ membersFrom s (suc k) n | false ↦ membersFrom s (suc k) n ]
-        ]) ≤ suc n
-    go true b h = zero-le
-    go false true h = omega arith
-    go false false h = omega arith
-
 pub members-most : (s : ℕ) → length (members 64 s) ≤ 64
-members-most s = members-count s 64 0
+members-most s = rw (length-members 64 s) (size-le 64 s)
 
 -- ---- the answer
 
