@@ -1,14 +1,21 @@
--- Lists without repeats: what they are made of, and how long they can be.
+-- Lists without repeats: what they are made of, and how long they can be; and the elements of a list, each once.
 -- Assumes nothing.
 use mathlib.Core.Path.{_≡_, refl, sym, ap, _∙_}
+use mathlib.Core.Bool.{Bool, true, false, not, true≢false}
 use mathlib.Core.HLevel.{⊥-prop}
-use mathlib.Core.List.{List, [], _∷_, _++_, List·Nodup, nodup-nil, nodup-cons, rel-of-pairwise-cons, Pairwise·of-cons, List·Memᴰ, List·Memᴰ·head, List·Memᴰ·tail, List·Memᴰ·not-nil, List·Memᴰ·cases-cons, List·Memᴰ·append-cases, Memᴰ·append-left, Memᴰ·append-right, Memᴰ·cast}
+use mathlib.Core.List.{List, [], _∷_, _++_, map, List·Nodup, nodup-nil, nodup-cons, rel-of-pairwise-cons, Pairwise·of-cons, List·Memᴰ, List·Memᴰ·head, List·Memᴰ·tail, List·Memᴰ·not-nil, List·Memᴰ·cases-cons, List·Memᴰ·append-cases, Memᴰ·append-left, Memᴰ·append-right, Memᴰ·of-map, Memᴰ·cast}
 use mathlib.Core.Logic.{inl, inr, _↔_, ∥∥₁-elim}
 use Prim.Native.Nat.{ℕ, suc, _≤_, zero-le}
 use native.Mathlib.Omega.{arith}
+use borrow.Author.Tests.{eqb-true}
+use denote.Floats.{passes}
+use lib.Dec.{eqb}
 use lib.ListN.{length}
-use Rattle.sequences.specs.Distinct.{Distinct}
+use Rattle.sequences.specs.Distinct.{Distinct, once}
 use Rattle.sequences.specs.Rising.{Rising}
+use Rattle.sequences.specs.Words.{every}
+use Rattle.sequences.proofs.Tests.{T-not, T-eqb}
+use Rattle.sequences.proofs.Words.{T-every}
 
 -- A joined list has no element twice exactly if neither part has and no element stands in both.
 pub distinct-append : (k l : List ℕ)
@@ -38,6 +45,15 @@ pub rising-distinct : (l : List ℕ) → Rising l → Distinct l
 unfolding Distinct
 rising-distinct [] r = tt
 rising-distinct (x ∷ l) r = (λ m. absurd (omega (arith, rel-of-pairwise-cons r ∣ m ∣₁)), rising-distinct l (Pairwise·of-cons r))
+
+-- Where different elements have different values, the values are no repeats.
+pub distinct-map : (f : ℕ → ℕ) (l : List ℕ) → Distinct l → ((x y : ℕ) → List·Memᴰ x l → List·Memᴰ y l → f x ≡ f y → x ≡ y) → Distinct (map f l)
+unfolding Distinct
+distinct-map f [] d apart = tt
+distinct-map f (x ∷ l) d apart = (
+  λ m. let (y, i, e) = Memᴰ·of-map f l m in d .0 (Memᴰ·cast (apart x y (List·Memᴰ·head refl) (List·Memᴰ·tail i) (sym e)) i),
+  distinct-map f l (d .1) (λ y z i j. apart y z (List·Memᴰ·tail i) (List·Memᴰ·tail j)),
+)
 
 -- ---- the length
 
@@ -74,3 +90,50 @@ distinct-at-most (x ∷ l) m d within =
     let rest : length l ≤ length (t .rest) = distinct-at-most l (t .rest) (d .1) (λ y j.
     t .others y (λ e. d .0 (Memᴰ·cast (sym e) j)) (within y (List·Memᴰ·tail j))) in
     omega (arith, t .shorter)
+
+-- Two lists without repeats that have the same members are equally long.
+pub distinct-length : (l m : List ℕ) → Distinct l → Distinct m → ((x : ℕ) → List·Memᴰ x l ↔ List·Memᴰ x m) → length l ≡ length m
+distinct-length l m d e same = omega (arith, distinct-at-most l m d (λ x. same x .0), distinct-at-most m l e (λ x. same x .1))
+
+-- ---- each element once
+
+-- An element that does not differ from all of a list stands in it.
+not-apart : (x : ℕ) (l : List ℕ) → every (λ y. not (eqb x y)) l ≡ false → List·Memᴰ x l
+unfolding every
+not-apart x [] e = absurd (true≢false e)
+not-apart x (y ∷ l) e = go (eqb x y) refl e (not-apart x l)
+  where
+    go : (b : Bool) → eqb x y ≡ b → elim (not b) [ true ↦ every (λ z. not (eqb x z)) l | false ↦ false ] ≡ false
+        → (every (λ z. not (eqb x z)) l ≡ false → List·Memᴰ x l) → List·Memᴰ x (y ∷ l)
+    go true q e rest = List·Memᴰ·head (eqb-true x y q)
+    go false q e rest = List·Memᴰ·tail (rest e)
+
+-- What stands in a list stands in it once each was taken once, and nothing else does.
+pub in-once : (l : List ℕ) (x : ℕ) → List·Memᴰ x (once l) ↔ List·Memᴰ x l
+unfolding once
+in-once [] x = (λ m. m, λ m. m)
+in-once (y ∷ l) x = go (every (λ z. not (eqb y z)) l) refl (in-once l x)
+  where
+    go : (b : Bool) → every (λ z. not (eqb y z)) l ≡ b → List·Memᴰ x (once l) ↔ List·Memᴰ x l
+        → List·Memᴰ x (elim b [ true ↦ y ∷ once l | false ↦ once l ]) ↔ List·Memᴰ x (y ∷ l)
+    go true e rest = (
+      λ m. elim (List·Memᴰ·cases-cons m) [ inl q ↦ List·Memᴰ·head q | inr n ↦ List·Memᴰ·tail (rest .0 n) ],
+      λ m. elim (List·Memᴰ·cases-cons m) [ inl q ↦ List·Memᴰ·head q | inr n ↦ List·Memᴰ·tail (rest .1 n) ],
+    )
+    go false e rest = (
+      λ m. List·Memᴰ·tail (rest .0 m),
+      λ m. elim (List·Memᴰ·cases-cons m) [ inl q ↦ rest .1 (Memᴰ·cast q (not-apart y l e)) | inr n ↦ rest .1 n ],
+    )
+
+-- No element is left twice.
+pub once-distinct : (l : List ℕ) → Distinct (once l)
+unfolding Distinct once
+once-distinct [] = tt
+once-distinct (x ∷ l) = go (every (λ y. not (eqb x y)) l) refl (once-distinct l)
+  where
+    go : (b : Bool) → every (λ y. not (eqb x y)) l ≡ b → Distinct (once l) → Distinct (elim b [ true ↦ x ∷ once l | false ↦ once l ])
+    go true e rest = (
+      λ m. T-not (eqb x x) .0 (T-every (λ y. not (eqb x y)) l .0 (passes (every (λ y. not (eqb x y)) l) e) x (in-once l x .0 m)) (T-eqb x x .1 refl),
+      rest,
+    )
+    go false e rest = rest

@@ -2,9 +2,18 @@
 -- To believe.
 --
 --   Distinct l       no element stands in l twice
+--   once l           the elements of l, each once  [computed: in-once, once-distinct (sequences/proofs/Distinct)]
+use mathlib.Core.Bool.{true, false, not}
 use mathlib.Core.List.{List, [], _∷_, List·Memᴰ}
 use Prim.Native.Nat.{ℕ}
+use lib.Dec.{eqb}
+use Rattle.sequences.specs.Words.{every}
 
 unfoldable pub Distinct : List ℕ → Type 0
 Distinct [] = Unit {0}
 Distinct (x ∷ l) = (List·Memᴰ x l → ⊥) × Distinct l
+
+-- Of equal elements the last stays.
+unfoldable pub once : List ℕ → List ℕ
+once [] = []
+once (x ∷ l) = elim (every (λ y. not (eqb x y)) l) [ true ↦ x ∷ once l | false ↦ once l ]
