@@ -13,7 +13,7 @@ use Rattle.sequences.proofs.Tests.{T-not, T-eqb}
 use Rattle.bitset.specs.Members.{_∈_}
 use Rattle.bitset.proofs.Subsets.{⊆-insert}
 use Rattle.network.specs.declared.Network.{Network}
-use Rattle.network.specs.Record.{_when_, among, unlessRefused, Stored, Slot, faultOf, setFault, withEdge, present}
+use Rattle.network.specs.Record.{_when_, among, unlessRefused, Stored, Slot, faultOf, edgesFault, setFault, withEdge, present}
 use Rattle.network.specs.Ends.{Loop}
 use Rattle.network.proofs.Refusals.{then-other, when-other, among-every}
 use Rattle.network.proofs.Rules.{none-outside}
@@ -110,10 +110,14 @@ test : (N : Network) → faultOf N ≡ 10 → ⊥
 unfolding among
 test N = not-fault N 10 (λ t. t)
 
--- Nor does a call on a set of cables.
+-- Nor does a call on cables, a set or rows.
+edges : (N : Network) (b : Bool) → edgesFault N b ≡ 10 → ⊥
+unfolding edgesFault
+edges N b = then-other (faultOf N) (test N) (when-other 14 _ (λ e. omega arith) (omega arith))
+
 set : (N : Network) (c : ℕ) → setFault N c ≡ 10 → ⊥
 unfolding setFault
-set N c = then-other (faultOf N) (test N) (when-other 14 _ (λ e. omega arith) (omega arith))
+set N c = edges N _
 
 judging : (N : Network) → Stored N → (c : ℕ) → verdictOf N c ≡ Refused 10 → ⊥
 judging N stored c e = let said : Says N c (Refused 10) = subst (Says N c) e (verdict-right N stored c) in set N c (said .0)

@@ -29,7 +29,10 @@
 --   recordRefusals   the numbers that the record test can give  [working]
 --   faultUpTo most N the record's first fault, 0 if it has none, where so many points are the most
 --   faultOf N        the same with the most that there may be; a record is accepted if it is 0
---   setFault N c     the refusal of a call on N and a set of edges c: the record's first fault, then 14 for an edge that is not present
+--   allPresent N c   whether every member of c is an edge present
+--   edgesFault N b   the refusal of a call on N and edges, b being whether all are present: the record's first fault, then 14 if one is not
+--   setFault N c     that of a call on N and a set of edges c
+--   rowsFault N l    that of a call on N and rows l, each a set of edges
 --
 -- Records:
 --   assembled nodes source sink edges first second metres      a network from its fields
@@ -45,7 +48,7 @@ use Prim.Native.Nat.{ℕ, zero, suc, _<_, _^_}
 use lib.Bits.{bitAnd}
 use lib.Dec.{leb, ltb, eqb}
 use lib.ListN.{length, getD, set, replicate}
-use Rattle.sequences.specs.Words.{range}
+use Rattle.sequences.specs.Words.{range, every}
 use Rattle.bitset.specs.Members.{has, insert}
 use Rattle.node_set.specs.Width.{nodeWidth}
 use Rattle.network.specs.declared.Network.{Network}
@@ -147,9 +150,19 @@ faultUpTo most N = sizeFault most (N .nodes) then terminalFault (N .nodes) (N .s
 abbrev pub faultOf : Network → ℕ
 faultOf = faultUpTo nodeWidth
 
--- 14: a set holds an edge that is not present
+-- Every member of c is an edge present.
+abbrev pub allPresent : Network → ℕ → Bool
+allPresent N c = eqb (bitAnd c (present N)) c
+
+-- 14: a set or row holds an edge that is not present
+unfoldable pub edgesFault : Network → Bool → ℕ
+edgesFault N b = faultOf N then 14 when not b
+
 unfoldable pub setFault : Network → ℕ → ℕ
-setFault N c = faultOf N then 14 when not (eqb (bitAnd c (present N)) c)
+setFault N c = edgesFault N (allPresent N c)
+
+unfoldable pub rowsFault : Network → List ℕ → ℕ
+rowsFault N l = edgesFault N (every (allPresent N) l)
 
 -- ---- records
 

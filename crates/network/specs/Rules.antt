@@ -3,10 +3,12 @@
 --
 --   Rules N          N keeps them all: it is a plan within the rules
 --   FaultMeans N r   what the number r of the record test means
+--   RowsPresent N l  the rows l, each a set of edges, hold no edge that is not present
+use mathlib.Core.List.{List, List·Memᴰ}
 use mathlib.Core.Logic.{_↔_}
 use mathlib.Core.Path.{_≡_}
 use Prim.Native.Nat.{ℕ, _≤_, _<_}
-use Rattle.bitset.specs.Members.{_∈_}
+use Rattle.bitset.specs.Members.{_∈_, _⊆_}
 use Rattle.node_set.specs.Width.{nodeWidth}
 use Rattle.network.specs.declared.Network.{Network}
 use Rattle.network.specs.Record.{firstEnd, secondEnd, metresOf, present, Stored}
@@ -20,3 +22,6 @@ pub record Rules (N : Network) : Type 0 where
 pub record FaultMeans (N : Network) (r : ℕ) : Type 0 where
   pub stored : Stored N
   pub kept : (r ≡ 0) ↔ Rules N
+
+abbrev pub RowsPresent : Network → List ℕ → Type 0
+RowsPresent N l = (c : ℕ) → List·Memᴰ c l → c ⊆ present N
