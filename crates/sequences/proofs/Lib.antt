@@ -1,5 +1,6 @@
 -- The laws of lists that the kit does not have.
 pub mod Tests
+pub mod First
 pub mod Places
 pub mod Distinct
 pub mod Counts
