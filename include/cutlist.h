@@ -14,8 +14,8 @@
  *   metres   the length of each cable in metres, 0 if it is not measured or the cable is absent
  *
  * Fill in both ends of every cable present: one whose ends are left 0 is no fault but a loop at point
- * 0, and is in no cut of the list. Metres change no useful part, no verdict, no list and nothing that
- * is written for a log.
+ * 0, and is in no cut of the list. Metres change no useful part, no verdict, no list, no width and
+ * nothing that is written for a log.
  *
  * struct cutlist_plan holds the fields together, and for each function that takes them one by one
  * there is an inline function that takes the struct: cutlist_plan_fault for cutlist_fault. A call of
@@ -23,10 +23,9 @@
  *
  * A set is a number in which member k weighs 2^k: 64 bits, for cables as for points.
  *
- * Every function but cutlist_widths gives the number of a refusal, CUTLIST_ACCEPTED if there is
- * none. Whatever a record's fields hold, the call is safe: each call tests the record first, as
- * cutlist_fault does. Out parameters are written on refusal too, as said beside each; lent bytes and
- * rows are untouched then.
+ * Every function gives the number of a refusal, CUTLIST_ACCEPTED if there is none. Whatever a
+ * record's fields hold, the call is safe: each call tests the record first, as cutlist_fault does. Out
+ * parameters are written on refusal too, as said beside each; lent bytes and rows are untouched then.
  *
  * No pointer may be NULL, not even beside a length of 0, and each must be aligned as its type asks,
  * on x86-64 to 8 bytes for uint64_t and size_t, to 4 for uint32_t and to 2 for uint16_t. A length
@@ -102,7 +101,7 @@ enum cutlist_refusal {
     CUTLIST_ROWS_DIFFER = 11,           /* cut rows and side rows differ in number */
     CUTLIST_TOO_MANY_CUTS = 12,         /* more minimal cuts than rows lent */
     CUTLIST_ABSENT_EDGE_NOT_ZERO = 13,  /* an absent cable with an end or metres not 0 */
-    CUTLIST_EDGE_NOT_PRESENT = 14,      /* a given set holds a cable not present */
+    CUTLIST_EDGE_NOT_PRESENT = 14,      /* a given set or row holds a cable not present */
     CUTLIST_BUFFER_TOO_SHORT = 15,      /* the plan needs more bytes than were lent */
     CUTLIST_TOO_MANY_EVENTS = 18,       /* more whole events than bytes lent */
     CUTLIST_NOT_TRIMMED = 26            /* some point or present cable is not useful */
@@ -296,12 +295,24 @@ uint8_t cutlist_replay(
     size_t *count);
 
 /*
- * Counts the rows of a list by width, the number of cables in the cut. It refuses nothing.
+ * Counts the rows of a list by width. The width of a row is the number of different pairs of points
+ * that its cables join, whichever end comes first: cables between the same two points count once, and
+ * so do loops at one point. Any rows are counted, whether they are cuts or not: one that holds a single
+ * cable of several between the same points has that pair as well. Refusals of cutlist_fault, without
+ * rows too, and 14 if some row holds a cable not present.
  *
  *   cuts, cuts_length  the list; any rows, or none
- *   table              out: how many rows have width 0, 1 .. 64
+ *   table              out: how many rows have width 0, 1 .. 64, together as many as there are; 0
+ *                      throughout on refusal
  */
-void cutlist_widths(
+uint8_t cutlist_widths(
+    uint8_t nodes,
+    uint8_t source,
+    uint8_t sink,
+    uint64_t present,
+    const uint8_t first[CUTLIST_SLOTS],
+    const uint8_t second[CUTLIST_SLOTS],
+    const uint16_t metres[CUTLIST_SLOTS],
     const uint64_t *cuts, size_t cuts_length,
     uint64_t table[CUTLIST_WIDTHS]);
 
@@ -415,6 +426,15 @@ static inline uint8_t cutlist_plan_replay(
     size_t *count)
 {
     return cutlist_replay(CUTLIST_FIELDS(plan), log, log_length, silent, silent_length, count);
+}
+
+/* Counts the rows of a list by width, as cutlist_widths does. */
+static inline uint8_t cutlist_plan_widths(
+    const struct cutlist_plan *plan,
+    const uint64_t *cuts, size_t cuts_length,
+    uint64_t table[CUTLIST_WIDTHS])
+{
+    return cutlist_widths(CUTLIST_FIELDS(plan), cuts, cuts_length, table);
 }
 
 #undef CUTLIST_FIELDS

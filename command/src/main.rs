@@ -12,6 +12,7 @@ mod program;
 mod replay;
 mod status;
 mod trimmed;
+mod widths;
 
 use std::env;
 use std::ffi::OsString;
@@ -35,6 +36,8 @@ enum Asked {
     List(Vec<OsString>),
     /// The same of files whose plans were trimmed already.
     Trimmed(Vec<OsString>),
+    /// How many cuts of these files have which width.
+    Widths(Vec<OsString>),
     /// The metres of these cables of a file, or of all that its plan has.
     Metres(OsString, Option<EdgeSet>),
     /// What a log, the second file, did to the room of a plan, the first.
@@ -74,13 +77,14 @@ fn run() -> io::Result<Status> {
             list::run(&root.join("target/bin/list"), &files)
         }
         Ok(Asked::Trimmed(files)) => trimmed::run(&files),
+        Ok(Asked::Widths(files)) => widths::run(&files),
         Ok(Asked::Metres(file, edges)) => metres::run(&file, edges),
         Ok(Asked::Replay(plan, log)) => replay::run(&plan, &log),
     }
 }
 
 /// The words that say what to do.
-const WORDS: [&str; 3] = ["trimmed", "metres", "replay"];
+const WORDS: [&str; 4] = ["trimmed", "widths", "metres", "replay"];
 
 /// What the arguments ask for, or what is wrong with them. A word that says what to do stands first:
 /// anywhere else, and after `--`, it is a file's name.
@@ -110,6 +114,9 @@ fn asked(arguments: impl Iterator<Item = OsString>) -> Result<Asked, String> {
     };
     if word == "trimmed" {
         return Ok(Asked::Trimmed(files(words)?));
+    }
+    if word == "widths" {
+        return Ok(Asked::Widths(files(words)?));
     }
     let edges = match others {
         [] => None,

@@ -9,7 +9,7 @@ use crate::answer::{self, Answer};
 use crate::status::Status;
 
 /// As many rows as the list program lends.
-const MAX_ROWS: usize = 2048;
+pub const MAX_ROWS: usize = 2048;
 
 /// Lists the plans of the files. An error is one of standard output.
 pub fn run(files: &[OsString]) -> io::Result<Status> {

@@ -29,8 +29,11 @@
 //! // Cables 0, 1 and 2 cut the room off, and one of them could be spared.
 //! assert_eq!(plan.classify(EdgeSet(0b00111))?, Verdict::NotMinimal);
 //!
-//! // Two cuts of two cables, two of three.
-//! assert_eq!(cutlist::widths(rows.cuts())[..5], [0, 0, 2, 2, 0]);
+//! // Two cuts of width 2, two of width 3: their cables join so many pairs of points. A second cable
+//! // beside cable 0 makes no cut wider.
+//! assert_eq!(plan.widths(rows.cuts())?[..5], [0, 0, 2, 2, 0]);
+//! let double = plan.clone().with_edge(5, 1, 0)?;
+//! assert_eq!(double.widths(double.mincuts(1000)?.cuts())?[..5], [0, 0, 2, 2, 0]);
 //!
 //! // Cable 3 is measured and cable 4 is not: of the cut of both, 12 metres are known.
 //! let plan = plan.with_length(3, 12)?;
@@ -63,7 +66,7 @@ mod sets;
 mod sys;
 
 pub use list::{ListError, Mincut, Mincuts};
-pub use plan::{widths, EdgeError, EdgeFault, Plan, Relevant, Verdict};
+pub use plan::{EdgeError, EdgeFault, Plan, Relevant, Verdict};
 pub use refusal::Refusal;
 pub use replay::{DOWN, UP};
 pub use sets::{EdgeSet, Members, NodeSet};

@@ -325,11 +325,16 @@ impl Plan {
         let (number, count) = sys::replay(&self.0, log, silent);
         answer(number, count).and_then(|count| replay::whole(log, silent, count))
     }
-}
 
-/// How many of the cuts have 0, 1 .. 64 cables.
-pub fn widths(cuts: &[EdgeSet]) -> [u64; sys::WIDTHS] {
-    sys::widths(cuts)
+    /// How many of these sets of cables have width 0, 1 .. 64. The width of a set is the number of
+    /// different pairs of points that its cables join, whichever end comes first: cables between the
+    /// same two points count once, and so do loops at one point. The sets may be cuts or any others;
+    /// the counts are together as many as the sets. If a set holds a cable that the plan has not,
+    /// there is no count: [`Refusal::EdgeNotPresent`].
+    pub fn widths(&self, cuts: &[EdgeSet]) -> Result<[u64; sys::WIDTHS], Refusal> {
+        let (number, table) = sys::widths(&self.0, cuts);
+        answer(number, table)
+    }
 }
 
 #[cfg(test)]
@@ -844,13 +849,105 @@ mod tests {
         assert_eq!(bridge().replay_into(&[], &mut []), Ok(0));
     }
 
+    /// A table with these counts, by width, and 0 elsewhere.
+    fn table(counts: &[(usize, u64)]) -> Result<[u64; 65], Refusal> {
+        let mut table = [0; 65];
+        for &(width, count) in counts {
+            table[width] = count;
+        }
+        Ok(table)
+    }
+
     #[test]
     fn widths_are_counted() {
-        let table = widths(&[EdgeSet(3), EdgeSet(14), EdgeSet(21), EdgeSet(24)]);
-        assert_eq!((table[2], table[3]), (2, 2));
-        assert_eq!(table.iter().sum::<u64>(), 4);
-        let ends = widths(&[EdgeSet(0), EdgeSet(u64::MAX)]);
-        assert_eq!((ends[0], ends[64]), (1, 1));
-        assert_eq!(widths(&[]), [0; 65]);
+        let rows = bridge().mincuts(4).expect("listed");
+        assert_eq!(bridge().widths(rows.cuts()), table(&[(2, 2), (3, 2)]));
+        assert_eq!(
+            measured_bridge().widths(rows.cuts()),
+            bridge().widths(rows.cuts())
+        );
+        let sets = [0, 31, 16, 0, 1].map(EdgeSet);
+        assert_eq!(bridge().widths(&sets), table(&[(0, 2), (1, 2), (5, 1)]));
+        assert_eq!(bridge().widths(&[]), table(&[]));
+        // A circle of 64 points, of which no two cables join the same.
+        let bare = Plan::new(64, 0, 32).expect("accepted");
+        let circle = (0..64).fold(bare, |plan, k| {
+            plan.with_edge(k, k, (k + 1) % 64).expect("accepted")
+        });
+        let sets: Vec<EdgeSet> = (0..64).map(|k| EdgeSet(u64::MAX >> k)).collect();
+        let each: Vec<(usize, u64)> = (1..=64).map(|width| (width, 1)).collect();
+        assert_eq!(circle.widths(&sets), table(&each));
+    }
+
+    #[test]
+    fn cables_between_the_same_points_count_once() {
+        // Whichever end comes first, and wherever in the set they stand.
+        for ends in [[(0, 1), (0, 1)], [(0, 1), (1, 0)]] {
+            let trunk = hall(2, 1, &ends);
+            let rows = trunk.mincuts(1).expect("listed");
+            assert_eq!(rows.cuts(), [EdgeSet(3)]);
+            assert_eq!(trunk.widths(rows.cuts()), table(&[(1, 1)]));
+            let sets = [1, 2, 3, 0].map(EdgeSet);
+            assert_eq!(trunk.widths(&sets), table(&[(0, 1), (1, 3)]));
+        }
+        let all = EdgeSet(u64::MAX);
+        let sets = [all, EdgeSet(1 << 63), EdgeSet(1 << 63 | 1)];
+        assert_eq!(hall(2, 1, &[(0, 1); 64]).widths(&sets), table(&[(1, 3)]));
+        // Cables 0 and 3 are one pair, and so are 1 and 2; of either pair a set may hold one.
+        let line = hall(3, 2, &[(0, 1), (1, 2), (2, 1), (1, 0)]);
+        for (set, width) in [
+            (0b1001, 1),
+            (0b0110, 1),
+            (0b1010, 2),
+            (0b0101, 2),
+            (0b1011, 2),
+            (0b1111, 2),
+            (0b1000, 1),
+        ] {
+            assert_eq!(line.widths(&[EdgeSet(set)]), table(&[(width, 1)]));
+        }
+    }
+
+    #[test]
+    fn loops_at_one_point_count_once() {
+        let looped = hall(2, 1, &[(0, 1), (0, 0), (1, 1), (0, 0)]);
+        for (set, width) in [
+            (0b0010, 1),
+            (0b1010, 1),
+            (0b0110, 2),
+            (0b0011, 2),
+            (0b1111, 3),
+        ] {
+            assert_eq!(looped.widths(&[EdgeSet(set)]), table(&[(width, 1)]));
+        }
+    }
+
+    #[test]
+    fn a_set_with_an_absent_cable_has_no_width() {
+        for absent in [1 << 5, 1 << 63 | 3, u64::MAX] {
+            for place in 0..4 {
+                let mut sets = [3, 14, 21, 24].map(EdgeSet);
+                sets[place].0 |= absent;
+                let refused = bridge().widths(&sets);
+                assert_eq!(refused, Err(Refusal::EdgeNotPresent));
+            }
+        }
+    }
+
+    /// Of every set of the cables of a plan, and of a long list.
+    #[test]
+    fn counts_are_together_as_many_as_the_sets() {
+        let plan = hall(
+            3,
+            2,
+            &[(0, 1), (1, 2), (1, 0), (2, 2), (2, 1), (0, 2), (2, 2)],
+        );
+        let sets: Vec<EdgeSet> = (0..128).map(EdgeSet).collect();
+        let widths = plan.widths(&sets).expect("accepted");
+        assert_eq!(widths.iter().sum::<u64>(), 128);
+        // Three pairs with two cables each, and one with one: 3, 3, 3 and 1 ways to have them.
+        assert_eq!(widths[..6], [1, 10, 36, 54, 27, 0]);
+        let long = sets.repeat(1000);
+        assert_eq!(plan.widths(&long), Ok(widths.map(|count| 1000 * count)));
     }
 }

@@ -61,7 +61,7 @@ refusals! {
     11 RowsDiffer "cut rows and side rows differ in number"
     12 TooManyCuts "more minimal cuts than rows lent"
     13 AbsentEdgeNotZero "an absent cable with an end or metres not 0"
-    14 EdgeNotPresent "a given set holds a cable not present"
+    14 EdgeNotPresent "a given set or row holds a cable not present"
     15 BufferTooShort "the plan needs more bytes than were lent"
     16 BadEvent "an event with an unknown command, or half an event"
     17 NoSuchEdge "an event of a cable not present"

@@ -46,7 +46,7 @@ impl EdgeSet {
         self.0.checked_shr(edge.into()).unwrap_or(0) & 1 == 1
     }
 
-    /// How many members there are: the width, if the set is a cut.
+    /// How many members there are. A cut's width can be less: [`Plan::widths`](crate::Plan::widths).
     pub fn len(self) -> usize {
         self.0.count_ones() as usize
     }

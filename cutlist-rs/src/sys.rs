@@ -49,8 +49,6 @@ unsafe extern "C" {
         second: *mut [u8; SLOTS],
         metres: *mut [u16; SLOTS],
     ) -> u8;
-
-    fn cutlist_widths(cuts: *const u64, cuts_length: usize, table: *mut [u64; WIDTHS]);
 }
 
 /// Declares the calls on a record, which begin with its fields, and makes of each one that begins
@@ -58,7 +56,7 @@ unsafe extern "C" {
 macro_rules! on_a_record {
     ($(fn $name:ident($($more:ident: $type:ty),*);)*) => {
         mod on_fields {
-            use super::SLOTS;
+            use super::{SLOTS, WIDTHS};
 
             unsafe extern "C" {
                 $(
@@ -123,6 +121,7 @@ on_a_record! {
         silent_length: usize,
         count: *mut usize
     );
+    fn cutlist_widths(cuts: *const u64, cuts_length: usize, table: *mut [u64; WIDTHS]);
 }
 
 /// A call that lists into lent rows: each pointer must be valid for its type and length, and no two
@@ -232,10 +231,10 @@ pub fn replay(r: &Record, log: &[u8], silent: &mut [u8]) -> (u8, usize) {
 }
 
 /// The width table of a list.
-pub fn widths(cuts: &[EdgeSet]) -> [u64; WIDTHS] {
+pub fn widths(r: &Record, cuts: &[EdgeSet]) -> (u8, [u64; WIDTHS]) {
     let mut table = [0; WIDTHS];
-    // SAFETY: each pointer is valid for its type and length, and the two do not overlap. An EdgeSet
-    // is laid out as its number, being transparent.
-    unsafe { cutlist_widths(cuts.as_ptr().cast(), cuts.len(), &mut table) };
-    table
+    // SAFETY: each pointer is valid for its type and length, and no two overlap. A set is laid out
+    // as its number, being transparent.
+    let refusal = unsafe { cutlist_widths(r, cuts.as_ptr().cast(), cuts.len(), &mut table) };
+    (refusal, table)
 }

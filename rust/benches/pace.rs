@@ -2,18 +2,20 @@
 //! points and cables numbered anew for each call; then the cost of a row in short lists and long
 //! ones, the slowest calls found, the useful part, which each list begins with, and the judging of a
 //! minimal cut; then the test of trimmed plans beside their trimming; then link logs of ten million
-//! events beside the same method in ordinary Rust. All are measured in one run: medians over repeated
-//! calls in turn, the rows cleared before each list, and the bytes before each log. A ratio is the
-//! library's time over that of the column before it, of trimmed plans that of the first of two
-//! columns over that of the second.
+//! events, and width tables of a million rows, beside the same methods in ordinary Rust. All are
+//! measured in one run: medians over repeated calls in turn, the rows cleared before each list, and
+//! the bytes before each log. A ratio is the library's time over that of the column before it, of
+//! trimmed plans that of the first of two columns over that of the second.
 //!
 //! cargo bench --offline
 //!
-//! The eleven-point hall alone, about a second; or trimmed plans alone; or logs alone:
+//! The eleven-point hall alone, about a second; or trimmed plans alone; or logs alone; or width tables
+//! alone:
 //!
 //! cargo bench --offline -- --eleven
 //! cargo bench --offline -- --trimmed
 //! cargo bench --offline -- --replay
+//! cargo bench --offline -- --widths
 //!
 //! With all or with the first, an earlier build of the library is measured in the same run if it is
 //! there as a shared object, by its whole path or as seen from this package:
@@ -21,8 +23,13 @@
 //! gcc -shared -o before.so -Wl,-Bsymbolic -Wl,--whole-archive libcapi.a -Wl,--no-whole-archive
 //! cargo bench --offline -- --before before.so
 //!
+//! With all or with width tables, so is the width table of an earlier build that takes the rows without
+//! a plan and counts cables singly, on plans of which no two cables join the same points:
+//!
+//! cargo bench --offline -- --widths --singly before.so
+//!
 //! It ends with 1 if a limit is exceeded, with 2 if nothing was measured, and in a panic if two of them
-//! list different rows or write different bytes.
+//! list different rows, write different bytes or count differently.
 //!
 //! The halls as plans, and small random ones behind them, for igraph_cuts.py:
 //!
@@ -32,26 +39,31 @@ use std::env;
 use std::ffi::{c_char, c_int, c_void, CString};
 use std::fs;
 use std::hint::black_box;
+use std::mem;
 use std::os::unix::ffi::OsStringExt;
 use std::panic;
 use std::process::{Command, ExitCode};
 use std::time::Duration;
 
-use cutlist_tests::answers::{Nodes, Verdict};
+use cutlist_tests::answers::{Nodes, Verdict, Widths};
 use cutlist_tests::halls;
 use cutlist_tests::plans;
 use cutlist_tests::record::Record;
 use cutlist_tests::reference::{DOWN, UP};
 use cutlist_tests::rng::Rng;
-use cutlist_tests::sys::capi::Build;
+use cutlist_tests::sys::capi::{on_fields, Build};
 use cutlist_tests::timer::Timer;
-use cutlist_tests::{ordinary, sides, sys};
+use cutlist_tests::{brute, ordinary, sides, sys};
 
 /// On the eleven-point hall and on logs the library may take so many times what ordinary Rust takes.
 const MOST_RATIO: f64 = 2.0;
 
 /// From a thousand rows to a million the dearest row may cost so many times the cheapest.
 const MOST_SPREAD: f64 = 1.5;
+
+/// On plans of which no two cables join the same points, a width table may take so many times what it
+/// took where cables are counted singly.
+const MOST_OVER_SINGLY: f64 = 1.1;
 
 /// The most rows that are lent on a hall of the table.
 const MOST: usize = 1 << 21;
@@ -127,6 +139,7 @@ enum Asked {
     Eleven,
     Trimmed,
     Replay,
+    Widths,
     Plans,
 }
 
@@ -134,19 +147,22 @@ enum Asked {
 struct Options {
     asked: Asked,
     before: Option<String>,
+    singly: Option<String>,
 }
 
 impl Options {
     /// `None` if it cannot be read.
     fn of(mut arguments: impl Iterator<Item = String>) -> Option<Options> {
-        let (mut asked, mut before) = (None, None);
+        let (mut asked, mut before, mut singly) = (None, None, None);
         while let Some(name) = arguments.next() {
             let again = match name.as_str() {
                 "--eleven" => asked.replace(Asked::Eleven).is_some(),
                 "--trimmed" => asked.replace(Asked::Trimmed).is_some(),
                 "--replay" => asked.replace(Asked::Replay).is_some(),
+                "--widths" => asked.replace(Asked::Widths).is_some(),
                 "--plans" => asked.replace(Asked::Plans).is_some(),
                 "--before" => before.replace(arguments.next()?).is_some(),
+                "--singly" => singly.replace(arguments.next()?).is_some(),
                 _ => return None,
             };
             if again {
@@ -154,13 +170,18 @@ impl Options {
             }
         }
         let asked = asked.unwrap_or(Asked::All);
-        let fit = before.is_none() || matches!(asked, Asked::All | Asked::Eleven);
-        fit.then_some(Options { asked, before })
+        let fit = (before.is_none() || matches!(asked, Asked::All | Asked::Eleven))
+            && (singly.is_none() || matches!(asked, Asked::All | Asked::Widths));
+        fit.then_some(Options {
+            asked,
+            before,
+            singly,
+        })
     }
 }
 
-/// The build in this shared object.
-fn loaded(file: &str) -> Build {
+/// Where the calls of the build in this shared object stand, by their names.
+fn places(file: &str) -> impl Fn(&str) -> Option<*const ()> {
     unsafe extern "C" {
         fn dlopen(path: *const c_char, mode: c_int) -> *mut c_void;
         fn dlsym(object: *mut c_void, name: *const c_char) -> *mut c_void;
@@ -174,14 +195,34 @@ fn loaded(file: &str) -> Build {
     // SAFETY: the path ends with its only 0, and a build of the library does nothing on loading.
     let object = unsafe { dlopen(path.as_ptr(), NOW | LOCAL) };
     assert!(!object.is_null(), "{file} cannot be loaded");
-    let place_of = |name: &str| {
+    move |name| {
         let name = CString::new(name).expect("a name");
         // SAFETY: the object stays loaded, and the name ends with its only 0.
         let place = unsafe { dlsym(object, name.as_ptr()) };
         (!place.is_null()).then_some(place.cast_const().cast())
-    };
-    // SAFETY: the object is a build of the library, and its calls are as the header declares them.
-    unsafe { Build::loaded(place_of) }
+    }
+}
+
+/// The build in this shared object, without the calls of which an earlier build may have others.
+fn loaded(file: &str) -> Build {
+    const CHANGED: [&str; 1] = ["cutlist_widths"];
+
+    let place_of = places(file);
+    // SAFETY: the object is a build of the library, and its calls that are asked for are as the header
+    // declares them.
+    unsafe { Build::loaded(|name| place_of(name).filter(|_| !CHANGED.contains(&name))) }
+}
+
+/// The width table that takes the rows without a plan and counts cables singly.
+type Singly = unsafe extern "C" fn(*const u64, usize, *mut Widths);
+
+/// That of the earlier build in this shared object.
+fn singly(file: &str) -> Singly {
+    let place = places(file)("cutlist_widths").expect("a width table");
+    let linked = on_fields::cutlist_widths as *const ();
+    assert_ne!(place, linked, "linked, not loaded");
+    // SAFETY: the object is a build of the library whose width table is such a one.
+    unsafe { mem::transmute::<*const (), Singly>(place) }
 }
 
 /// How the points and cables of a hall are numbered.
@@ -858,6 +899,116 @@ fn replays() -> Vec<(&'static str, f64)> {
     slow
 }
 
+/// Rows in each list that is counted by width, and the calls of each.
+const ROWS: usize = 1 << 20;
+const COUNTS: usize = 51;
+
+/// The lists that are counted: a name, the plan and the rows, which are its list or any of its cables. Of
+/// the first plans no two cables join the same points, of the others some do, or all.
+fn counted() -> Vec<(&'static str, Record, Vec<u64>)> {
+    let mut rng = Rng::new(1);
+    let mut any = |plan: &Record| -> Vec<u64> {
+        let row = |_| rng.draw() & plan.present;
+        (0..ROWS).map(row).collect()
+    };
+    let listed = |plan: &Record| {
+        let mut lent = Lent::rows(ROWS);
+        assert_eq!(
+            Lister::Ordinary.list(plan, &mut lent),
+            (0, ROWS),
+            "{plan:?}"
+        );
+        lent.cuts
+    };
+    let hubs = halls::two_hubs(20);
+    let beside = |plan: Record, (slot, edge): (usize, usize)| {
+        let (first, second) = (plan.first[edge], plan.second[edge]);
+        plan.with(slot, second, first)
+    };
+    let some_double = (40..44).zip([0, 9, 18, 39]).fold(hubs.clone(), beside);
+    let bridge = halls::bridge();
+    let eleven = halls::complete(11);
+    let circle = halls::circle(64, &[1]);
+    let line = halls::line(32, 2);
+    let trunk = halls::two_points(64);
+    vec![
+        ("two hubs, the list", hubs.clone(), listed(&hubs)),
+        ("bridge, any rows", bridge.clone(), any(&bridge)),
+        ("every pair of 11, any rows", eleven.clone(), any(&eleven)),
+        ("circle of 64, any rows", circle.clone(), any(&circle)),
+        (
+            "two hubs, 4 double, the list",
+            some_double.clone(),
+            listed(&some_double),
+        ),
+        (
+            "two hubs, 4 double, any rows",
+            some_double.clone(),
+            any(&some_double),
+        ),
+        ("line of 32, double, any rows", line.clone(), any(&line)),
+        (
+            "two points, 64 cables, any rows",
+            trunk.clone(),
+            any(&trunk),
+        ),
+    ]
+}
+
+/// The table of width tables: how many pairs of points the cables join, the library's time and that of
+/// ordinary Rust, and, if there is such a build and no two cables join the same points, the time to count
+/// cables singly. Gives the lists on which the library takes too many times the last, and the ratio.
+fn width_tables(singly: Option<Singly>) -> Vec<(&'static str, f64)> {
+    let names = &["library", "ordinary", "singly"][..2 + usize::from(singly.is_some())];
+    println!(
+        "\n{:<32} {:>6} {:>6} {:>6} {:>5}{}",
+        "width tables of a million rows",
+        "points",
+        "cables",
+        "pairs",
+        "calls",
+        headings(names, WIDTH)
+    );
+    println!("{:<59}{}", "", units(names, "us/call", WIDTH).trim_end());
+
+    let mut dear = Vec::new();
+    for (name, plan, rows) in counted() {
+        let (cables, pairs) = (
+            plan.present.count_ones() as usize,
+            brute::pairs(&plan, plan.present).len(),
+        );
+        let singly = singly.filter(|_| pairs == cables);
+        let mut times = vec![Vec::new(); 2 + usize::from(singly.is_some())];
+        for _ in 0..COUNTS {
+            let (answer, time) = Timer::Processor.time(|| sys::widths_bare(&plan, &rows));
+            times[0].push(time);
+            let (plain, time) = Timer::Processor.time(|| ordinary::widths(&plan, &rows));
+            times[1].push(time);
+            assert_eq!((0, plain), (answer.0, Ok(answer.1)), "{name}");
+            if let Some(call) = singly {
+                let mut table = [0; 65];
+                // SAFETY: each pointer is valid for its type and length, and the two do not overlap.
+                let count = || unsafe { call(rows.as_ptr(), rows.len(), &mut table) };
+                let ((), time) = Timer::Processor.time(count);
+                times[2].push(time);
+                assert_eq!(table, answer.1, "{name}");
+            }
+        }
+        let times: Vec<Duration> = times.into_iter().map(median).collect();
+        println!(
+            "{name:<32} {:>6} {cables:>6} {pairs:>6} {COUNTS:>5}{}",
+            plan.nodes,
+            figures(&times, 1000, WIDTH)
+        );
+        let over = times.get(2).map(|&singly| ratio(times[0], singly));
+        dear.extend(
+            over.filter(|&ratio| ratio > MOST_OVER_SINGLY)
+                .map(|ratio| (name, ratio)),
+        );
+    }
+    dear
+}
+
 /// Prints the halls of the table, one without a route and small random ones, which have no name: the
 /// plan's bytes and the name.
 fn print_plans() {
@@ -879,7 +1030,7 @@ fn main() -> ExitCode {
     let arguments = env::args().skip(1).filter(|argument| argument != "--bench");
     let Some(options) = Options::of(arguments) else {
         eprintln!(
-            "cargo bench --offline [-- [--eleven] [--before LIB.so] | --trimmed | --replay | --plans]"
+            "cargo bench --offline [-- [--eleven] [--before LIB.so] | [--widths] [--singly LIB.so] | --trimmed | --replay | --plans]"
         );
         return ExitCode::from(2);
     };
@@ -936,6 +1087,14 @@ fn main() -> ExitCode {
         exceeded.extend(replays().into_iter().map(|(name, ratio)| {
             format!(
                 "On the log '{name}' the library takes {ratio:.2} times what ordinary Rust takes, more than {MOST_RATIO}."
+            )
+        }));
+    }
+    if all || asked == Asked::Widths {
+        let singly = options.singly.as_deref().map(singly);
+        exceeded.extend(width_tables(singly).into_iter().map(|(name, ratio)| {
+            format!(
+                "On the rows '{name}' the width table takes {ratio:.2} times what it takes to count cables singly, more than {MOST_OVER_SINGLY}."
             )
         }));
     }

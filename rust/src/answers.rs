@@ -27,5 +27,5 @@ pub enum Verdict {
     Minimal = 3,
 }
 
-/// The width table: how many rows have 0 to 64 cables.
+/// The width table: how many rows have width 0 to 64.
 pub type Widths = [u64; 65];

@@ -1,9 +1,10 @@
 //! The paper's definitions by force, from the ways through a plan taken one by one.
 
+use std::collections::BTreeSet;
 use std::iter;
 
 use crate::answers::{Nodes, Part, Row, Verdict};
-use crate::record::Record;
+use crate::record::{Record, SLOTS};
 
 /// A way from server to room that meets no point twice.
 #[derive(Clone, Copy, Debug, PartialEq, Eq, PartialOrd, Ord)]
@@ -194,6 +195,28 @@ fn with_sides(record: &Record, cuts: Vec<u64>) -> Vec<Row> {
             side: source_side(record, part, cut),
         })
         .collect()
+}
+
+/// The two points that a cable joins, the lower first. A loop joins its point with itself.
+fn pair(record: &Record, edge: usize) -> (u8, u8) {
+    let (one, other) = (record.first[edge], record.second[edge]);
+    (one.min(other), one.max(other))
+}
+
+/// The different pairs of points that the cables of a set join.
+pub fn pairs(record: &Record, set: u64) -> BTreeSet<(u8, u8)> {
+    members(set).map(|edge| pair(record, edge)).collect()
+}
+
+/// For each cable present those that join the same two points, itself among them.
+pub fn trunks(record: &Record) -> [u64; SLOTS] {
+    let mut trunks = [0; SLOTS];
+    for edge in record.edges() {
+        let same = |&other: &usize| pair(record, other) == pair(record, edge);
+        let beside = record.edges().filter(same);
+        trunks[edge] = beside.fold(0, |trunk, other| trunk | 1 << other);
+    }
+    trunks
 }
 
 /// The members of a set, rising.

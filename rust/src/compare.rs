@@ -3,6 +3,7 @@
 use std::fmt::LowerHex;
 
 use crate::answers::{Nodes, Part, Row, Verdict, Widths};
+use crate::brute;
 use crate::lent;
 use crate::ordinary;
 use crate::record::{Record, SLOTS};
@@ -79,17 +80,17 @@ pub fn relevant(record: &Record, part: Part) -> u8 {
     number
 }
 
-/// The number with which a set is refused, 0 if it is not.
-fn set_refusal(record: &Record, set: u64) -> u8 {
+/// The number with which sets are refused, 0 if they are not.
+fn refusal_of(record: &Record, sets: &[u64]) -> u8 {
     match reference::number(&reference::fault(record)) {
-        0 if set & !record.present != 0 => Refusal::EdgeNotPresent as u8,
+        0 if sets.iter().any(|set| set & !record.present != 0) => Refusal::EdgeNotPresent as u8,
         number => number,
     }
 }
 
 /// Judges a set; `verdict` is what it should be if nothing is refused. Gives the refusal number.
 pub fn classify(record: &Record, set: u64, verdict: Verdict) -> u8 {
-    let number = set_refusal(record, set);
+    let number = refusal_of(record, &[set]);
     let verdict = if number == 0 { verdict as u8 } else { 0 };
     let answer = sys::classify(record, set);
     assert_eq!(answer, (number, verdict), "set {set:#x}, record {record:?}");
@@ -98,7 +99,7 @@ pub fn classify(record: &Record, set: u64, verdict: Verdict) -> u8 {
 
 /// Adds up the metres of a set. Gives the refusal number and the total.
 pub fn metres(record: &Record, set: u64) -> (u8, u32) {
-    let number = set_refusal(record, set);
+    let number = refusal_of(record, &[set]);
     let mut total = 0;
     if number == 0 {
         for edge in (0..SLOTS).filter(|edge| set >> edge & 1 == 1) {
@@ -263,15 +264,22 @@ fn assert_rows<T: PartialEq + LowerHex>(kind: &str, rows: &[T], expected: &[T], 
     }
 }
 
-/// Counts the rows of a list by width.
-pub fn widths(cuts: &[u64]) -> Widths {
-    let mut expected = [0; 65];
-    for cut in cuts {
-        let width = (0..64).filter(|edge| cut >> edge & 1 == 1).count();
-        expected[width] += 1;
+/// Counts the rows of a list by width; ordinary Rust counts the same. Gives the refusal number and the
+/// table.
+pub fn widths(record: &Record, rows: &[u64]) -> (u8, Widths) {
+    let number = refusal_of(record, rows);
+    let counted = if number == 0 { rows } else { &[] };
+    let answer = sys::widths(record, rows);
+    let sum: u64 = answer.1.iter().sum();
+    assert_eq!(sum, counted.len() as u64, "record {record:?}");
+
+    let mut table = [0; 65];
+    for &row in counted {
+        table[brute::pairs(record, row).len()] += 1;
     }
-    let table = sys::widths(cuts);
-    assert_eq!(table, expected, "{} rows", cuts.len());
-    assert_eq!(table.iter().sum::<u64>(), cuts.len() as u64);
-    table
+    assert_eq!(answer, (number, table), "record {record:?}");
+    let plain = ordinary::widths(record, rows);
+    let expected = if number == 0 { Ok(table) } else { Err(number) };
+    assert_eq!(plain, expected, "record {record:?}");
+    answer
 }

@@ -15,6 +15,7 @@
 //! - `plans`: random records, and damage to plans and records
 //! - `lengths`: the same for the metres of cables
 //! - `logs`: random link logs, and damage to them
+//! - `lists`: random lists of rows, and damage to them
 //! - `tally`: how often each refusal number and each verdict occurred
 //! - `timer`: what tells the time of a call
 //! - `fuzz`: arbitrary bytes as questions for every function
@@ -26,6 +27,7 @@ pub mod fuzz;
 pub mod halls;
 pub mod lengths;
 pub mod lent;
+pub mod lists;
 pub mod logs;
 pub mod ordinary;
 pub mod plans;

@@ -10,7 +10,7 @@ use capi::Build;
 pub mod capi {
     use std::mem;
 
-    use super::{Nodes, Record, SLOTS};
+    use super::{Nodes, Record, Widths, SLOTS};
 
     unsafe extern "C" {
         pub fn cutlist_decode(
@@ -24,8 +24,6 @@ pub mod capi {
             second: *mut [u8; SLOTS],
             metres: *mut [u16; SLOTS],
         ) -> u8;
-
-        pub fn cutlist_widths(cuts: *const u64, length: usize, table: *mut [u64; 65]);
     }
 
     /// A call on a record: its fields, and what else the call takes.
@@ -49,7 +47,7 @@ pub mod capi {
     macro_rules! on_a_record {
         ($(fn $name:ident($($more:ident: $type:ty),*);)*) => {
             pub mod on_fields {
-                use super::{Nodes, SLOTS};
+                use super::{Nodes, Widths, SLOTS};
 
                 unsafe extern "C" {
                     $(
@@ -153,6 +151,7 @@ pub mod capi {
             silent_length: usize,
             count: *mut usize
         );
+        fn cutlist_widths(cuts: *const u64, rows: usize, table: *mut Widths);
     }
 }
 
@@ -433,17 +432,24 @@ pub fn replay_bare(record: &Record, log: &[u8], silent: &mut [u8]) -> (u8, usize
     (refusal, count)
 }
 
-/// The width table of a list.
-pub fn widths(cuts: &[u64]) -> Widths {
+/// The width table of a list: the refusal number and the table.
+pub fn widths(record: &Record, cuts: &[u64]) -> (u8, Widths) {
     let mut lent_cuts = Rows::new(cuts);
     let mut table = Guarded::new([u64::from_ne_bytes([STALE; 8]); 65]);
 
     // SAFETY: each pointer is valid for its type and length, and no two overlap.
-    unsafe { capi::cutlist_widths(lent_cuts.place(), cuts.len(), table.place()) };
+    let refusal = on_a_copy(record, |r| unsafe {
+        capi::cutlist_widths(r, lent_cuts.place(), cuts.len(), table.place())
+    });
 
-    assert!(
-        lent_cuts.take() == cuts,
-        "the width table's call wrote into the list"
-    );
-    table.take()
+    assert!(lent_cuts.take() == cuts, "a call wrote into the list");
+    (refusal, table.take())
+}
+
+/// The same straight on the rows, with nothing around the call: for measuring.
+pub fn widths_bare(record: &Record, cuts: &[u64]) -> (u8, Widths) {
+    let mut table = [0; 65];
+    // SAFETY: each pointer is valid for its type and length, and no two overlap.
+    let refusal = unsafe { capi::cutlist_widths(record, cuts.as_ptr(), cuts.len(), &mut table) };
+    (refusal, table)
 }

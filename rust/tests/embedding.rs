@@ -120,25 +120,23 @@ fn the_library_has_no_memory_of_its_own_and_calls_only_to_copy_and_fill() {
     assert!(functions >= 10, "{text}");
 }
 
-/// Each function that takes or gives a record has a companion that does so with a struct.
+/// Each takes or gives a record, and has a companion that does so with a struct.
 #[test]
 fn the_header_declares_every_function_of_the_library() {
     let source = fs::read_to_string(root().join("crates/capi/src/lib.rt")).expect("the source");
     let header = fs::read_to_string(root().join("include/cutlist.h")).expect("the header");
-    let (mut functions, mut on_records) = (0, 0);
+    let mut functions = 0;
     for exported in source.split("\npub extern \"C\" fn cutlist_").skip(1) {
         let (name, rest) = exported.split_once('(').expect("a name");
-        let declared = format!(" cutlist_{name}(\n");
+        let declared = format!("uint8_t cutlist_{name}(\n");
         assert!(header.contains(&declared), "{name} is missing");
-        functions += 1;
         let (parameters, _) = rest.split_once(')').expect("parameters");
-        if parameters.contains("present: ") {
-            let inline = format!("static inline uint8_t cutlist_plan_{name}(");
-            assert!(header.contains(&inline), "{name} lacks its companion");
-            on_records += 1;
-        }
+        assert!(parameters.contains("present: "), "{name} has no record");
+        let inline = format!("static inline uint8_t cutlist_plan_{name}(");
+        assert!(header.contains(&inline), "{name} lacks its companion");
+        functions += 1;
     }
-    assert!(functions >= 10 && on_records >= 9);
+    assert!(functions >= 10, "{functions}");
 }
 
 #[test]

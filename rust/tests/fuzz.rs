@@ -9,7 +9,7 @@ use std::process::Command;
 
 use cutlist_tests::fuzz::case::{self, Case, Size, FIELDS, FITTED, HEAD, RAW};
 use cutlist_tests::fuzz::counts::{Counts, FAR};
-use cutlist_tests::fuzz::digest::{digest, replay_digest, trimmed_digest};
+use cutlist_tests::fuzz::digest::{digest, replay_digest, trimmed_digest, widths_digest};
 use cutlist_tests::fuzz::search::{panic_of, search};
 use cutlist_tests::fuzz::shrinking::shrink;
 use cutlist_tests::fuzz::{making, questions};
@@ -169,6 +169,29 @@ fn a_wrong_log_is_found_and_shrunk() {
     assert!(silent.len() <= 4, "{:02X?}", case.log);
 }
 
+/// A wrong claim about widths: that each cable counts.
+fn ask_with_a_wrong_width(bytes: &[u8], counts: &mut Counts) {
+    questions::ask(bytes, counts);
+    let record = Case::of(bytes).record;
+    let (refusal, table) = sys::widths(&record, &[record.present]);
+    let cables = record.present.count_ones() as usize;
+    assert!(refusal != 0 || table[cables] == 1, "a row is narrow");
+}
+
+#[test]
+fn a_wrong_width_is_found_and_shrunk() {
+    let found = search(cases(95, 1_000), ask_with_a_wrong_width).expect_err("a narrow row");
+    assert_eq!(found.message, "a row is narrow");
+    let wrong =
+        |bytes: &[u8]| panic_of(|| ask_with_a_wrong_width(bytes, &mut Counts::default())).is_some();
+    let shrunk = shrink(&found.bytes, 10_000, wrong);
+    assert!(wrong(&shrunk));
+    // Nothing is left but two points and two cables, which join the same ones.
+    let record = Case::of(&shrunk).record;
+    assert_eq!((record.nodes, record.present.count_ones()), (2, 2));
+    assert_eq!(brute::pairs(&record, record.present).len(), 1);
+}
+
 #[test]
 fn shrinking_ends_after_so_many_tries() {
     let tries = Cell::new(0);
@@ -220,7 +243,7 @@ fn every_byte_string_is_a_case() {
     assert!(counts.list.total() >= counts.cases);
     assert_eq!(counts.list_trimmed.total(), counts.list.total());
     assert!(counts.replay.total() >= 3 * counts.cases);
-    assert!(counts.widths >= counts.cases);
+    assert!(counts.widths.total() >= 3 * counts.cases);
 }
 
 #[test]
@@ -304,6 +327,19 @@ fn the_digest_of_logs() {
     assert_eq!(digest_of(&measured, 100), digest_of(&bridge, 100));
 }
 
+/// The width tables have a number of their own.
+#[test]
+fn the_digest_of_widths() {
+    let bridge = halls::bridge();
+    let digest_of = |hall: &Record| widths_digest([with_head(RAW, &case::raw_bytes(hall))]);
+    let double = bridge.clone().with(63, 0, 1);
+    let other = bridge.clone().with(63, 0, 3);
+    let faulty = bridge.clone().with(63, 0, 4);
+    let mut numbers = [&bridge, &double, &other, &faulty].map(digest_of);
+    numbers.sort_unstable();
+    assert!(numbers.windows(2).all(|pair| pair[0] != pair[1]));
+}
+
 /// The digest is of the totals too, and of every length that is read.
 #[test]
 fn the_digest_sees_lengths() {
@@ -382,6 +418,10 @@ fn cases_of_every_kind_are_made() {
                 far && record.edges().filter(|&edge| steps(edge) == 1).count() < 10,
             ),
             ("a loop", fit && record.loops() != 0),
+            (
+                "cables between the same points",
+                fit && brute::pairs(record, record.present).len() < record.edges().count(),
+            ),
             (
                 "a trimmed plan",
                 fit && sides::relevant(record) == record.whole(),
@@ -560,6 +600,11 @@ fn the_command() {
     assert_eq!((code, text), (Some(0), format!("{replay:016x}\n")));
     assert_ne!(replay, number);
 
+    let (code, text) = run(&["--digest", "--widths", "--seed", "88", "--cases", "7"]);
+    let widths = widths_digest(cases(88, 7).map(|(_, bytes)| bytes));
+    assert_eq!((code, text), (Some(0), format!("{widths:016x}\n")));
+    assert_ne!(widths, number);
+
     let file = Path::new(env!("CARGO_TARGET_TMPDIR")).join("fuzz-file");
     fs::write(&file, making::bytes(88, 7)).expect("a file");
     let (code, text) = run(&["--file", file.to_str().expect("text")]);
@@ -571,7 +616,10 @@ fn the_command() {
         &["--cases"],
         &["--trimmed"],
         &["--replay"],
+        &["--widths"],
         &["--digest", "--trimmed", "--replay"],
+        &["--digest", "--trimmed", "--widths"],
+        &["--digest", "--replay", "--widths"],
         &["--without-loops"],
         &["--without-lengths"],
         &["-x"],

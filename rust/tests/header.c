@@ -33,11 +33,13 @@ int main(void)
 {
     static const uint64_t cuts_listed[5] = {3, 14, 21, 24, 7};
     static const uint64_t sides_listed[5] = {1, 3, 5, 7, 9};
+    static const uint64_t rows[3] = {33, 3, 32};
     struct cutlist_plan plan, zero;
     uint8_t bytes[27], silent[5], verdict;
     uint32_t total;
     uint64_t cuts[5] = {7, 7, 7, 7, 7}, edges;
     uint64_t sides[5] = {9, 9, 9, 9, 9}, nodes;
+    uint64_t table[CUTLIST_WIDTHS];
     size_t count;
 
     /* Reading, which leaves nothing of what the struct held. */
@@ -85,6 +87,25 @@ int main(void)
     CHECK(cutlist_plan_list_trimmed(&plan, cuts, 0, sides, 0, &count) == CUTLIST_NOT_TRIMMED && count == 0);
     CHECK(memcmp(cuts, cuts_listed, sizeof cuts) == 0);
     plan.nodes = 4;
+
+    /* Widths: the list's, and those of any rows; with cable 5 beside cable 0 the two are one pair. */
+    memset(table, 0xEE, sizeof table);
+    CHECK(cutlist_plan_widths(&plan, cuts, 4, table) == CUTLIST_ACCEPTED);
+    CHECK(table[0] == 0 && table[1] == 0 && table[2] == 2 && table[3] == 2 && table[64] == 0);
+    CHECK(cutlist_plan_widths(&plan, cuts, 0, table) == CUTLIST_ACCEPTED);
+    CHECK(table[2] == 0 && table[3] == 0);
+    memset(table, 0xEE, sizeof table);
+    CHECK(cutlist_plan_widths(&plan, rows, 3, table) == CUTLIST_EDGE_NOT_PRESENT);
+    CHECK(table[0] == 0 && table[1] == 0 && table[2] == 0 && table[64] == 0);
+    plan.present = 63;
+    plan.first[5] = 1;
+    CHECK(cutlist_plan_widths(&plan, rows, 3, table) == CUTLIST_ACCEPTED);
+    CHECK(table[0] == 0 && table[1] == 2 && table[2] == 1 && table[3] == 0);
+    plan.second[5] = 4;
+    CHECK(cutlist_plan_widths(&plan, rows, 0, table) == CUTLIST_END_OUTSIDE);
+    CHECK(table[0] == 0 && table[1] == 0 && table[2] == 0);
+    plan.present = 31;
+    plan.first[5] = plan.second[5] = 0;
 
     /* A link log: cables 0 and 1 go down, the second of them twice, and cable 0 comes up. */
     memset(silent, 9, sizeof silent);

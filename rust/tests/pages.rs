@@ -9,6 +9,7 @@ use std::slice;
 use cutlist_tests::answers::{Nodes, Part};
 use cutlist_tests::halls;
 use cutlist_tests::lengths;
+use cutlist_tests::lists;
 use cutlist_tests::logs;
 use cutlist_tests::plans;
 use cutlist_tests::record::{Record, SLOTS};
@@ -16,7 +17,7 @@ use cutlist_tests::reference::{DOWN, UP};
 use cutlist_tests::rng::Rng;
 use cutlist_tests::sides;
 use cutlist_tests::sys;
-use cutlist_tests::sys::capi::{cutlist_decode, cutlist_widths, on_fields};
+use cutlist_tests::sys::capi::{cutlist_decode, on_fields};
 use cutlist_tests::tally::Tally;
 
 unsafe extern "C" {
@@ -194,11 +195,21 @@ fn assert_same_list(record: &Record, arrays: &Arrays, trimmed: bool, at: At) {
         assert_eq!(lent_cuts.values(), &cuts[..lent]);
         assert_eq!(lent_sides.values(), &sides[..lent]);
 
-        let table = Lent::new(&[7u64; 65], at);
-        // SAFETY: each pointer is valid for its type and length, and the two do not overlap.
-        unsafe { cutlist_widths(lent_cuts.place, lent, table.place.cast()) };
-        assert_eq!(table.values(), sys::widths(lent_cuts.values()));
+        assert_same_widths(record, arrays, lent_cuts.values(), at);
     }
+}
+
+/// The width table of a list is what it is elsewhere. Gives the refusal number.
+fn assert_same_widths(record: &Record, arrays: &Arrays, rows: &[u64], at: At) -> u8 {
+    let lent_rows = Lent::new(rows, at);
+    let table = Lent::new(&[7u64; 65], at);
+    let (place, out) = (lent_rows.place, table.place.cast());
+    let refusal = call!(cutlist_widths, record, arrays, place, rows.len(), out);
+    let (number, widths) = sys::widths(record, rows);
+    assert_eq!(refusal, number, "{record:?}");
+    assert_eq!(table.values(), widths, "{record:?}");
+    assert_eq!(lent_rows.values(), rows);
+    refusal
 }
 
 /// What is written for a log is what is written elsewhere, with one byte less lent than it needs,
@@ -347,6 +358,31 @@ fn the_reader_does_not_look_past_the_last_byte() {
         }
     }
     assert!(read > 1_500, "{read}");
+}
+
+/// Where the last page ends: no row, one, and as many as a page has and more, all of cables that the
+/// record has, and with another cable in the last row.
+#[test]
+fn no_list_is_looked_past() {
+    const ROWS: usize = PAGE / size_of::<u64>();
+    let mut rng = Rng::new(114);
+    let mut tally = Tally::default();
+    for _ in 0..20 {
+        let record = plans::record(&mut rng);
+        for at in [At::Start, At::End] {
+            let arrays = Arrays::of(&record, at);
+            tally.count(assert_same_widths(&record, &arrays, &[], at));
+            for count in [1, 2, ROWS - 1, ROWS, ROWS + 1, 2 * ROWS] {
+                let rows = lists::rows(&mut rng, &record, count);
+                tally.count(assert_same_widths(&record, &arrays, &rows, at));
+                if let Some(rows) = lists::with_absent(&mut rng, &record, &rows, count - 1) {
+                    tally.count(assert_same_widths(&record, &arrays, &rows, at));
+                }
+            }
+        }
+    }
+    tally.assert_only(&[0, 14]);
+    tally.assert_each(&[0, 14], 100);
 }
 
 /// Where the last page ends: every beginning of logs, the empty one and one byte among them, whole

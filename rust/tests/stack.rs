@@ -19,6 +19,7 @@ use std::process::{Command, Stdio};
 use cutlist_tests::answers::Nodes;
 use cutlist_tests::halls;
 use cutlist_tests::lengths;
+use cutlist_tests::lists;
 use cutlist_tests::logs;
 use cutlist_tests::plans;
 use cutlist_tests::record::Record;
@@ -106,6 +107,16 @@ fn replay(r: &Record, log: &[u8], silent: &mut [u8]) -> (usize, u8) {
     (stack, refusal)
 }
 
+/// The stack of the width table of a list, and its refusal number.
+fn widths(r: &Record, cuts: &[u64]) -> (usize, u8) {
+    let (mut refusal, mut table) = (0, [0; 65]);
+    // SAFETY: each pointer is valid for its type and length, and no two overlap.
+    let stack = stack_of(|| unsafe {
+        refusal = capi::cutlist_widths(r, cuts.as_ptr(), cuts.len(), &mut table);
+    });
+    (stack, refusal)
+}
+
 /// The most stack that one of the other calls on a record takes, and the reader on its bytes.
 fn others(r: &Record) -> usize {
     let mut plan = [0; reference::LONGEST_PLAN];
@@ -135,15 +146,10 @@ fn others(r: &Record) -> usize {
                 sys::decode_bare(&plan[..count], &mut read);
             }),
             replay(r, &log, &mut silent).0,
+            widths(r, &[0, r.present]).0,
         ]
     };
-    stacks.into_iter().max().expect("seven calls")
-}
-
-fn widths(cuts: &[u64]) -> usize {
-    let mut table = [0; 65];
-    // SAFETY: each pointer is valid for its type and length, and the two do not overlap.
-    stack_of(|| unsafe { capi::cutlist_widths(cuts.as_ptr(), cuts.len(), &mut table) })
+    stacks.into_iter().max().expect("eight calls")
 }
 
 /// Halls of every kind: deep ones, wide ones, one without a route, one with every cable.
@@ -242,11 +248,6 @@ fn no_call_takes_more_than_the_header_says() {
         assert_eq!((line.1, circle.1), (0, 0));
         assert_eq!(deepest, line.0.max(circle.0));
     }
-
-    for cuts in [&rows.cuts[..0], &rows.cuts] {
-        let stack = widths(cuts);
-        assert!(stack < others_most, "{stack} bytes");
-    }
 }
 
 /// However long a log is, and wherever it is faulty, it takes no more stack than a short one.
@@ -264,6 +265,27 @@ fn a_long_log_takes_no_more_stack_than_a_short_one() {
         assert!(silent.iter().all(|&byte| byte < 2));
         let (stack, refusal) = replay(&hall, &log[..log.len() - 1], &mut silent);
         assert_eq!(refusal, 16);
+        assert!(stack <= most, "{stack} bytes, not {most}");
+    }
+}
+
+/// However many rows a list has, and wherever one is refused, its width table takes no more stack than
+/// that of one row.
+#[test]
+fn a_long_list_takes_no_more_stack_to_count_than_a_short_one() {
+    let mut rng = Rng::new(73);
+    for hall in [halls::bridge(), halls::line(32, 2), halls::complete(11)] {
+        let rows = lists::rows(&mut rng, &hall, ROWS);
+        let (most, refusal) = widths(&hall, &[hall.present]);
+        assert_eq!(refusal, 0);
+        for count in [0, 1_000, ROWS] {
+            let (stack, refusal) = widths(&hall, &rows[..count]);
+            assert_eq!(refusal, 0);
+            assert!(stack <= most, "{stack} bytes, not {most}");
+        }
+        let refused = lists::with_absent(&mut rng, &hall, &rows, ROWS - 1);
+        let (stack, refusal) = widths(&hall, &refused.expect("an absent cable"));
+        assert_eq!(refusal, 14);
         assert!(stack <= most, "{stack} bytes, not {most}");
     }
 }

@@ -1,5 +1,6 @@
 //! The halls of the folder.
 
+use std::collections::{BTreeMap, BTreeSet};
 use std::fs;
 use std::path::PathBuf;
 use std::process::Command;
@@ -84,6 +85,45 @@ fn every_hall_is_added_up() {
         ended.listed(&format!("metres {total}\n{lacking}"));
     }
     assert!(measured >= 4, "{measured} lengths");
+}
+
+/// The widths of each hall by the ends of its cables, as they stand in the text, and by its list, as
+/// it is printed.
+#[test]
+fn every_hall_is_counted_by_width() {
+    let mut narrow = 0;
+    for hall in halls() {
+        let plan = bytes_of(&fs::read_to_string(&hall).expect("text"));
+        let ended = run(Command::new(script()).arg("widths").arg(&hall));
+        let listed = cutlist(&[&hall]);
+        if listed.status == Some(1) {
+            assert_eq!((ended.status, ended.out), (listed.status, listed.out));
+            assert_eq!(ended.err, listed.err);
+            continue;
+        }
+        let pair_of = |cable: &str| {
+            let number: u8 = cable.parse().expect("a number");
+            let mut commands = plan[5..].chunks_exact(4);
+            let command = commands.find(|command| command[..2] == [0x43, number]);
+            let ends = &command.expect("the cable")[2..];
+            (ends[0].min(ends[1]), ends[0].max(ends[1]))
+        };
+        let (cuts, rows) = listed.out.split_once('\n').expect("a line");
+        let mut counts: BTreeMap<usize, u32> = BTreeMap::new();
+        for row in rows.lines() {
+            let (cut, _) = row.split_once(" | ").expect("a bar");
+            let cables = cut.split(' ').filter(|&cable| cable != "-");
+            let pairs: BTreeSet<(u8, u8)> = cables.clone().map(pair_of).collect();
+            narrow += u32::from(pairs.len() < cables.count());
+            *counts.entry(pairs.len()).or_default() += 1;
+        }
+        let lines = counts.iter();
+        let lines: String = lines
+            .map(|(width, count)| format!("width {width} | {count}\n"))
+            .collect();
+        ended.listed(&format!("{cuts}\n{lines}"));
+    }
+    assert!(narrow >= 1, "{narrow}");
 }
 
 /// Before any event the room of a hall is heard, unless its list is the one empty cut.

@@ -11,4 +11,5 @@ mod streams;
 mod text;
 mod trimmed;
 mod usage;
+mod widths;
 mod words;

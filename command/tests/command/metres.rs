@@ -8,7 +8,7 @@ use std::process::Command;
 use super::running::*;
 use super::words::{ALL, MEASURED};
 
-const NOT_PRESENT: &str = "a given set holds a cable not present";
+const NOT_PRESENT: &str = "a given set or row holds a cable not present";
 
 /// The metres of these cables of a file.
 fn metres(file: &Path, cables: &[&str]) -> Ended {

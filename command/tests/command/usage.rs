@@ -21,6 +21,8 @@ fn help_is_printed_wherever_it_is_asked_for() {
         &["metres", "missing", "64", "--help"],
         &["trimmed", "-h"],
         &["trimmed", "missing", "-", "-", "--help"],
+        &["widths", "-h"],
+        &["widths", "missing", "-", "-", "--help"],
         &["replay", "-h"],
         &["replay", "missing", "-", "-", "--help"],
     ] {
@@ -35,6 +37,7 @@ fn an_unknown_option_is_a_wrong_use() {
         words(&["missing", option]).failed(2, &["unknown option ", option]);
         words(&["metres", "missing", option]).failed(2, &["unknown option ", option]);
         words(&["trimmed", "missing", option]).failed(2, &["unknown option ", option]);
+        words(&["widths", "missing", option]).failed(2, &["unknown option ", option]);
         words(&["replay", "missing", option]).failed(2, &["unknown option ", option]);
     }
 }

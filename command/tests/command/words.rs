@@ -27,10 +27,14 @@ pub const PLAYED: &str = "events 4\n\
     3 down 1 | silent\n\
     4 up 0 | heard, came back\n";
 
+/// The widths of the bridge's cuts.
+pub const WIDTHS: &str = "cuts 4\nwidth 2 | 2\nwidth 3 | 2\n";
+
 /// Each word, the log that it takes behind the plan, if it takes one, and what it answers for that
 /// plan.
-const WORDS: [(&str, Option<&str>, &str); 3] = [
+const WORDS: [(&str, Option<&str>, &str); 4] = [
     ("trimmed", None, BRIDGE_LIST),
+    ("widths", None, WIDTHS),
     ("metres", None, ALL),
     ("replay", Some("logs/bridge.hex"), PLAYED),
 ];
@@ -166,6 +170,7 @@ fn a_file_may_have_any_name() {
     let folder = Folder::new();
     let names = [
         "trimmed",
+        "widths",
         "metres",
         "replay",
         "-x",

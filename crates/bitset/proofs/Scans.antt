@@ -4,6 +4,7 @@
 --   Less s k t       the set t is s without its member k
 --   Done P all left  of all members but those that are left, P holds
 --   Gathered Comes base all left acc     the set acc holds base and what comes with each member but those that are left
+--   Sifted Stays base all left acc       the set acc holds base without those members, but for those that are left, which do not stay
 use mathlib.Core.Path.{_≡_, refl}
 use mathlib.Core.Bool.{false, not, _&&_}
 use mathlib.Core.Logic.{_⊎_, inl, inr, _↔_}
@@ -111,6 +112,54 @@ module _ (Comes : ℕ → ℕ → Type 0) (base all : ℕ) where
       → (v : ℕ) → (v ∈ acc) ↔ ((v ∈ base) ⊎ ((e : ℕ) × ((e ∈ all) × Comes e v)))
   gathered-last left acc none g v =
       (g .comes v, λ c. elim c [ inl m ↦ g .kept v m | inr j ↦ g .done .done (j .0) (j .1 .0) (none (j .0)) v (j .1 .1) ])
+
+-- ---- members that stay
+
+-- The set acc holds base without those members, but for those that are left, which do not stay.
+pub record Sifted (Stays : ℕ → Type 0) (base all left acc : ℕ) : Type 0 where
+  pub within : left ⊆ all
+  pub holds : (j : ℕ) → (j ∈ acc) ↔ ((j ∈ base) × (j ∈ all → (j ∈ left → ⊥) → Stays j))
+
+module _ (Stays : ℕ → Type 0) (base all : ℕ) where
+  -- At first there is the whole base.
+  pub sifted-first : Sifted Stays base all all base
+  sifted-first = record { within = ⊆-refl all; holds = λ j. (λ m. (m, λ i n. absurd (n i)), λ p. p .0) }
+
+  -- Where k stays, one less is left.
+  pub sifted-stays : (left k next acc : ℕ) → Less left k next → Stays k → Sifted Stays base all left acc → Sifted Stays base all next acc
+  sifted-stays left k next acc l stays s = record {
+    within = λ j m. s .within j (l .rest j .0 m .0);
+    holds = λ j. (
+      λ m. let p = s .holds j .0 m in (p .0, λ i n. go j (p .1 i) n (ℕ-discrete j k)),
+      λ p. s .holds j .1 (p .0, λ i n. p .1 i (λ m. n (l .rest j .0 m .0))),
+    );
+  }
+    where
+      go : (j : ℕ) → ((j ∈ left → ⊥) → Stays j) → (j ∈ next → ⊥) → Dec (j ≡ k) → Stays j
+      go j before n (yes e) = rw e stays
+      go j before n (no d) = before (λ m. n (l .rest j .1 (m, d)))
+
+  -- Where k does not stay and is taken away, one less is left.
+  pub sifted-goes : (left k next acc acc′ : ℕ) → Less left k next → (Stays k → ⊥) → ((j : ℕ) → (j ∈ acc′) ↔ ((j ∈ acc) × (j ≡ k → ⊥)))
+      → Sifted Stays base all left acc → Sifted Stays base all next acc′
+  sifted-goes left k next acc acc′ l goes taken s = record {
+    within = λ j m. s .within j (l .rest j .0 m .0);
+    holds = λ j. (
+      λ m. let q = taken j .0 m in let p = s .holds j .0 (q .0) in (p .0, λ i n. p .1 i (λ m′. n (l .rest j .1 (m′, q .1)))),
+      λ p. taken j .1 (
+        s .holds j .1 (p .0, λ i n. p .1 i (λ m. n (l .rest j .0 m .0))),
+        λ e. goes (rw e at (p .1 (rw e (s .within k (l .member))) (λ m. l .rest j .0 m .1 e))),
+      ),
+    );
+  }
+
+  -- Where none is left, there is the base without the members that do not stay.
+  pub sifted-last : (left acc : ℕ) → ((j : ℕ) → j ∈ left → ⊥) → Sifted Stays base all left acc
+      → (j : ℕ) → (j ∈ acc) ↔ ((j ∈ base) × (j ∈ all → Stays j))
+  sifted-last left acc none s j = (
+    λ m. let p = s .holds j .0 m in (p .0, λ i. p .1 i (none j)),
+    λ p. s .holds j .1 (p .0, λ i n. p .1 i),
+  )
 
 -- ---- members gone through
 

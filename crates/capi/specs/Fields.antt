@@ -9,6 +9,7 @@
 --   Played N log lent r n after     playing the log back for N into bytes that held `lent` gives the refusal r and the count n, and leaves
 --                        `after` in them
 --   Total N c r m        adding up the metres of the set c in N gives the refusal r and the total m
+--   Counted N cuts r table   counting the rows `cuts` by width in N gives the refusal r and the table
 --
 -- Of the two calls that list these are `Listing` (listing, List) and `TrimmedListing` (listing, Trimmed).
 use mathlib.Core.List.{List}
@@ -22,6 +23,7 @@ use Rattle.graph.specs.Cuts.{Cut, Mincut}
 use Rattle.connectivity.specs.Answers.{relevantOf, verdictOf, numbersOf}
 use Rattle.lengths.specs.Lengths.{totalOf}
 use Rattle.replay.specs.Replay.{replayedBy, silentAfter}
+use Rattle.widths.specs.Widths.{widthsOf}
 
 pub record Read (s : List ℕ) (r : ℕ) (N : Network) : Type 0 where
   pub refusal : r ≡ decodeOf s .refusal
@@ -56,3 +58,7 @@ pub record Played (N : Network) (log lent : List ℕ) (r n : ℕ) (after : List 
 pub record Total (N : Network) (c r m : ℕ) : Type 0 where
   pub refusal : r ≡ totalOf N c .refusal
   pub metres : m ≡ totalOf N c .metres
+
+pub record Counted (N : Network) (cuts : List ℕ) (r : ℕ) (table : List ℕ) : Type 0 where
+  pub refusal : r ≡ widthsOf N cuts .refusal
+  pub counts : table ≡ widthsOf N cuts .counts

@@ -8,14 +8,14 @@ use node_set::NodeWord;
 ghost use mathlib.Core.Path.{_≡_};
 ghost use Rattle.network.specs.Record.{assembled, faultOf};
 ghost use Rattle.network.specs.Rules.{FaultMeans};
-ghost use Rattle.widths.specs.Widths.{widthsOf};
+ghost use Rattle.widths.specs.Widths.{WidthsMean};
 ghost use Rattle.format.specs.Meaning.{ReadMeans, WrittenMeans};
 ghost use Rattle.connectivity.specs.Answers.{PartMeans};
 ghost use Rattle.lengths.specs.Lengths.{TotalMeans};
 ghost use Rattle.listing.specs.List.{Listing, ListMeans};
 ghost use Rattle.listing.specs.Trimmed.{TrimmedListing, TrimmedMeans};
 ghost use Rattle.replay.specs.Replay.{ReplayMeans};
-ghost use Rattle.capi.specs.Fields.{Read, Written, Found, Judged, JudgedMeans, Played, Total};
+ghost use Rattle.capi.specs.Fields.{Read, Written, Found, Judged, JudgedMeans, Played, Total, Counted};
 
 // Reads a plan. Gives the refusal's number, 0 if there is none, and fills in the record, all zero on refusal.
 #[no_mangle]
@@ -264,11 +264,26 @@ pub extern "C" fn cutlist_replay(
     replayed.refusal
 }
 
-// Counts the rows of a list by width: the number of rows with so many cables, for each width from 0 to 64.
+// Counts the rows of a list by width, the number of pairs of points that a row's cables join. Gives the refusal's number, 0 if there is
+// none, and fills in the table, how many rows have width 0, 1 .. 64, all 0 on refusal.
 #[no_mangle]
-pub extern "C" fn cutlist_widths(cuts: &[u64], table: &mut [u64; 65])
-    ensures { λ _. ⌜ now (table .exit) ≡ widthsOf (now (cuts .entry)) ⌝ }
+pub extern "C" fn cutlist_widths(
+    nodes: u8,
+    source: u8,
+    sink: u8,
+    present: u64,
+    first: &[u8; 64],
+    second: &[u8; 64],
+    metres: &[u16; 64],
+    cuts: &[u64],
+    table: &mut [u64; 65],
+) -> u8
+    ensures { λ r. ⌜ Counted (assembled nodes source sink present (now (first .entry)) (now (second .entry)) (now (metres .entry))) (now (cuts .entry)) r (now (table .exit)) ⌝ }
+    ensures means { λ r. ⌜ WidthsMean (assembled nodes source sink present (now (first .entry)) (now (second .entry)) (now (metres .entry))) (now (cuts .entry)) r (now (table .exit)) ⌝ }
 {
-    let counts = widths::width_table(cuts);
+    let cabled = assemble(nodes, source, sink, present, first, second, metres);
+    let counted = widths::width_table(cabled, cuts);
+    let counts = counted.counts;
     *table = counts;
+    counted.refusal
 }

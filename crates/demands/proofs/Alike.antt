@@ -1,4 +1,4 @@
--- Accepted networks that agree are answered alike.
+-- Accepted networks that agree, and of which one has the edges of the other, are answered alike.
 -- Assumes what the code's types say of the records.
 use mathlib.Core.Bool.{true, false}
 use mathlib.Core.List.{List}
@@ -6,12 +6,14 @@ use mathlib.Core.Path.{_≡_, ap₂}
 use Prim.Native.Nat.{ℕ}
 use lib.Dec.{ltb}
 use lib.ListN.{length}
-use Rattle.bitset.specs.Members.{_⊆_}
+use Rattle.bitset.specs.Members.{_∈_, _⊆_}
 use Rattle.network.specs.declared.Network.{Network}
 use Rattle.network.specs.Record.{Stored, faultOf, present}
+use Rattle.network.specs.Ends.{endsOf}
 use Rattle.format.proofs.Writing.{encode-decode}
 use Rattle.graph.proofs.Agree.{Agree}
 use Rattle.connectivity.proofs.Agree.{part-agrees, verdict-agrees}
+use Rattle.widths.proofs.Agree.{widths-agree}
 use Rattle.listing.proofs.Agree.{mincuts-agree, sourceSides-agree, call-agrees}
 use Rattle.replay.proofs.Events.{log-more}
 use Rattle.replay.proofs.Agree.{replay-agrees}
@@ -26,12 +28,13 @@ module _ (M N : Network) (stored′ : Stored M) (stored : Stored N) (ok′ : fau
       ap₂ (λ (l k : List ℕ). elim (ltb maxRows (length l)) [ true ↦ refusalLine 12 | false ↦ listText l k ])
       (mincuts-agree M N stored′ stored ok′ ok agree) (sourceSides-agree M N stored′ stored ok′ ok agree)
 
-  -- Where M has the edges of N.
-  pub alike : present N ⊆ present M → Alike M N
+  -- Where M has the edges of N, and each joins the same pair: agreeing says nothing of loops.
+  pub alike : present N ⊆ present M → ((k : ℕ) → k ∈ present N → endsOf M k ≡ endsOf N k) → Alike M N
   unfolding reportOf
-  alike more = record {
+  alike more same = record {
     part = part-agrees M N stored′ stored ok′ ok agree;
     verdicts = λ c within. verdict-agrees M N stored′ stored ok′ ok agree c (λ k m. more k (within k m)) within;
+    widths = λ cuts within. widths-agree M N ok′ ok same cuts (λ c i k m. more k (within c i k m)) within;
     list = call-agrees M N stored′ stored ok′ ok agree;
     replay = λ log lent good. replay-agrees M N stored′ stored ok′ ok agree log (log-more (present N) log (present M) more good) lent;
     printed = rw (encode-decode M stored′ ok′, encode-decode N stored ok) report-agrees;

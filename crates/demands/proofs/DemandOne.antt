@@ -15,11 +15,11 @@ use Rattle.sequences.proofs.Words.{drop-onto, length-onto}
 use Rattle.bitset.specs.Members.{_⊆_}
 use Rattle.bitset.proofs.Subsets.{subset-and}
 use Rattle.network.specs.declared.Network.{Network}
-use Rattle.network.specs.Record.{Stored, faultOf, present}
-use Rattle.network.specs.Rules.{Rules}
+use Rattle.network.specs.Record.{Stored, faultOf, rowsFault, present}
+use Rattle.network.specs.Rules.{Rules, RowsPresent}
 use Rattle.network.proofs.Refusals.{none-then, some-then, some-when, none-when, refused-none, refused-some}
 use Rattle.network.proofs.Rules.{fault-rules}
-use Rattle.network.proofs.Sets.{set-record, set-absent, set-none}
+use Rattle.network.proofs.Sets.{set-record, set-absent, set-none, rows-record, rows-absent, rows-none, rows-ok}
 use Rattle.format.specs.declared.Encoded.{Encoded}
 use Rattle.format.specs.Format.{Bytes, accept, refuse, decodeOf, encodeOf, encodeRefusal, encodedBy, bytesAfter}
 use Rattle.format.proofs.Reading.{accepts, decode-plan, decode-answer}
@@ -36,6 +36,8 @@ use Rattle.connectivity.specs.Answers.{relevantOf, verdictOf, Says, numbersOf}
 use Rattle.connectivity.proofs.Answers.{part-refused, part-accepted, verdict-refused, verdict-right}
 use Rattle.lengths.specs.Lengths.{totalOf}
 use Rattle.lengths.proofs.Totals.{total-refused, total-given}
+use Rattle.widths.specs.Widths.{widthsOf}
+use Rattle.widths.proofs.Answers.{widths-refused, widths-given}
 use Rattle.trimmed.specs.Trimmed.{trimmedFault}
 use Rattle.trimmed.proofs.Faults.{trimmed-faulty, trimmed-refused, trimmed-none}
 use Rattle.listing.specs.declared.Listed.{Listed}
@@ -54,7 +56,7 @@ use Rattle.replay.proofs.Meaning.{Answered as Played, replay-refused, replay-pl
 use Rattle.text.specs.Text.{refusalLine, maxRows}
 use Rattle.report.specs.Report.{listReport, reportOf}
 use Rattle.report.proofs.Reports.{report-outnumbered, report-complete}
-use Rattle.demands.specs.Endings.{ReaderEnds, PartEnds, JudgingEnds, TotalEnds, Kept, ListEnds, TrimmedEnds, ReplayEnds, WriterEnds, ReportEnds}
+use Rattle.demands.specs.Endings.{ReaderEnds, PartEnds, JudgingEnds, TotalEnds, WidthsEnds, Kept, ListEnds, TrimmedEnds, ReplayEnds, WriterEnds, ReportEnds}
 use Rattle.demands.specs.Demands.{DemandOne}
 
 -- A record without a fault keeps the rules.
@@ -133,6 +135,20 @@ total N c = go (ℕ-discrete (faultOf N) 0) (ℕ-discrete (bitAnd c (present N))
     go (yes ok) (yes e) =
         let within : c ⊆ present N = subset-and c (present N) .1 e in
         subst (TotalEnds N c) (total-given N c 0 _ (sym (set-none N c ok within)) refl refl) (TotalEnds.total (rules N ok) within)
+
+-- ---- the widths
+
+widths : (N : Network) (cuts : List ℕ) → WidthsEnds N cuts (widthsOf N cuts)
+widths N cuts = go (ℕ-discrete (faultOf N) 0) (ℕ-discrete (rowsFault N cuts) 0)
+  where
+    go : Dec (faultOf N ≡ 0) → Dec (rowsFault N cuts ≡ 0) → WidthsEnds N cuts (widthsOf N cuts)
+    go (no f) d =
+        subst (WidthsEnds N cuts) (widths-refused N cuts (faultOf N) (sym (rows-record N cuts (faultOf N) refl f)) f) (WidthsEnds.faulty (some f))
+    go (yes ok) (no d) =
+        let out : RowsPresent N cuts → ⊥ = λ within. d (rows-none N cuts ok within) in
+        subst (WidthsEnds N cuts) (widths-refused N cuts 14 (sym (rows-absent N cuts ok out)) (λ e. omega arith)) (WidthsEnds.absent (rules N ok) out)
+    go (yes ok) (yes none) =
+        subst (WidthsEnds N cuts) (widths-given N cuts 0 _ (sym none) refl refl) (WidthsEnds.counted (rules N ok) (rows-ok N cuts none .1))
 
 -- ---- the list
 
@@ -277,6 +293,7 @@ demand-one = record {
   part = part;
   judging = judging;
   total = total;
+  widths = widths;
   list = list;
   too-many = λ N stored cuts sides. call-outnumbered N stored cuts sides refl;
   trimmed = trimmed-list;

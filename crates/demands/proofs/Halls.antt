@@ -11,14 +11,15 @@ use lib.ListN.{length, getD}
 use Rattle.sequences.specs.Words.{every, passing, tabulate}
 use Rattle.sequences.proofs.Words.{T-every}
 use Rattle.sequences.proofs.Places.{mem-at}
-use Rattle.bitset.specs.Members.{has, insert, _∖_, size, subsets, membersFrom}
+use Rattle.bitset.specs.Members.{has, insert, _∖_, subsets, membersFrom}
 use Rattle.sequences.proofs.Tests.{T-and, T-eqb}
 use Rattle.network.specs.declared.Network.{Network}
 use Rattle.network.specs.Record.{_when_, _then_, sizeFault, outsideFault, bare, withEdge}
 use Rattle.format.specs.Format.{numberFault, sizeRefusal, terminalsRefusal, edgeRefusal, endRefusal, sizeStep, terminalsStep, edgeStep, lengthStep, lengthSize, ifTaken, edges, decodeUpTo, decodeOf}
 use Rattle.format.proofs.Reading.{accepts, decode-plan}
 use Rattle.sequences.specs.Counts.{countIf, tally}
-use Rattle.widths.specs.Widths.{widthsOf}
+use Rattle.sequences.specs.Distinct.{once}
+use Rattle.widths.specs.Widths.{pairsOf, widthOf, widthTable}
 use Rattle.graph.specs.Cuts.{only, Cut, Mincut}
 use Rattle.graph.specs.Reach.{addIf, across, roundOver, rounds, reachOf}
 use Rattle.graph.specs.CutTests.{severed, cutTest, allNeeded, mincutTest}
@@ -28,7 +29,7 @@ use Rattle.graph.proofs.Reach.{in-reach-single}
 use Rattle.graph.proofs.Cuts.{cutTest-iff, mincutTest-iff}
 use Rattle.graph.proofs.Relevant.{in-relevantNodes, in-relevantEdges}
 use Rattle.listing.specs.List.{mincuts, sourceSides}
-use Rattle.demands.specs.Halls.{JudgedSet, Hall, bridge, barCable, spur, hangingTriangle, noCable, twoCables, inARow, exchanged, halls, networkOf, widthTable, same, judgedTest, hallTests, hallTest, Established}
+use Rattle.demands.specs.Halls.{JudgedSet, Hall, bridge, barCable, spur, hangingTriangle, noCable, twoCables, inARow, exchanged, halls, networkOf, countsOf, same, judgedTest, hallTests, hallTest, Established}
 use Rattle.text.specs.Text.{digits, decimal, spaced, numbers, lineUpTo, wordLine, rowLines, listText}
 use Rattle.report.specs.Report.{listReport, reportOf}
 use Rattle.listing.proofs.Meaning.{mincuts-complete}
@@ -73,7 +74,7 @@ hall-right h t =
       accepted = ok;
       complete = rw (← T-same (mincuts N) (h .cuts) (passed 1 (omega arith)), ← T-same (sourceSides N) (h .sides) (passed 2 (omega arith))) (mincuts-complete N S);
       judged = λ j m. judged-right N S j (T-every (judgedTest N) (h .judged) .0 (passed 3 (omega arith)) j m);
-      widths = T-same (widthsOf (h .cuts)) (widthTable h) (passed 4 (omega arith));
+      widths = T-same (widthTable N (h .cuts)) (countsOf h) (passed 4 (omega arith));
       reached = λ v. rw (← T-eqb (reachOf N (2 ^ N .source)) (h .reached) .0 (passed 5 (omega arith))) (in-reach-single N (S .bounded) (N .source) v);
       nodes = λ v. rw (← T-eqb (relevantNodes N) (h .nodes) .0 (passed 6 (omega arith))) (in-relevantNodes N S v);
       edges = λ e. rw (← T-eqb (relevantEdges N) (h .edges) .0 (passed 7 (omega arith))) (in-relevantEdges N S e);
@@ -84,7 +85,7 @@ hall-right h t =
 
 -- Every hall of the table passes the test.
 halls-pass : T (every hallTest halls)
-unfolding has insert _∖_ size subsets countIf tabulate tally widthsOf _when_ _then_ sizeFault outsideFault bare withEdge numberFault sizeRefusal terminalsRefusal edgeRefusal endRefusal sizeStep terminalsStep edgeStep lengthStep lengthSize ifTaken edges decodeUpTo only membersFrom addIf across roundOver rounds reachOf severed every cutTest allNeeded mincutTest chosen twoIn edgesWithin past pastAll relevantNodes relevantEdges sourceSideOf passing mincuts digits decimal spaced numbers lineUpTo wordLine rowLines listText listReport reportOf bridge barCable spur hangingTriangle noCable twoCables inARow exchanged halls same judgedTest hallTests hallTest
+unfolding has insert _∖_ subsets countIf tabulate tally once pairsOf widthOf widthTable _when_ _then_ sizeFault outsideFault bare withEdge numberFault sizeRefusal terminalsRefusal edgeRefusal endRefusal sizeStep terminalsStep edgeStep lengthStep lengthSize ifTaken edges decodeUpTo only membersFrom addIf across roundOver rounds reachOf severed every cutTest allNeeded mincutTest chosen twoIn edgesWithin past pastAll relevantNodes relevantEdges sourceSideOf passing mincuts digits decimal spaced numbers lineUpTo wordLine rowLines listText listReport reportOf bridge barCable spur hangingTriangle noCable twoCables inARow exchanged halls same judgedTest hallTests hallTest
 halls-pass = tt
 
 -- So what it says of each hall is established.

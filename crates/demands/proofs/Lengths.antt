@@ -15,7 +15,7 @@ use Rattle.bitset.specs.Members.{_⊆_}
 use Rattle.bitset.proofs.Subsets.{⊆-refl, subset-and}
 use Rattle.node_set.specs.Width.{nodeWidth}
 use Rattle.network.specs.declared.Network.{Network}
-use Rattle.network.specs.Record.{_then_, among, withEdge, present}
+use Rattle.network.specs.Record.{_then_, among, edgesFault, rowsFault, withEdge, present}
 use Rattle.network.proofs.Refusals.{none-then, some-then, some-when, none-when}
 use Rattle.network.proofs.Rules.{none-size, none-outside}
 use Rattle.network.proofs.Numbers.{not-fault}
@@ -30,6 +30,7 @@ use Rattle.graph.specs.Lists.{SameList}
 use Rattle.graph.proofs.Agree.{Agree, minpaths-agree, without-agree, side-agree}
 use Rattle.connectivity.specs.Answers.{verdictOf}
 use Rattle.connectivity.proofs.Answers.{verdict-refused}
+use Rattle.widths.specs.Widths.{pairsOf, widthOf, widthTable, widthsOf}
 use Rattle.listing.specs.declared.Listed.{Listed}
 use Rattle.listing.specs.List.{listedBy, cutRowsAfter}
 use Rattle.listing.specs.Trimmed.{trimmedListedBy, trimmedCutRows, trimmedSideRows}
@@ -144,7 +145,7 @@ module _ (N : Network) (l : List ℕ) where
 
   module _ (a : Accepted N) (b : Accepted M) where
     answers : Alike M N
-    answers = alike M N (b .stored) (a .stored) (b .faultless) (a .faultless) agree (⊆-refl (present N))
+    answers = alike M N (b .stored) (a .stored) (b .faultless) (a .faultless) agree (⊆-refl (present N)) (λ k i. refl)
 
     verdicts : (c : ℕ) → verdictOf M c ≡ verdictOf N c
     verdicts c = go (ℕ-discrete (bitAnd c (present N)) c)
@@ -155,6 +156,11 @@ module _ (N : Network) (l : List ℕ) where
             let out : c ⊆ present N → ⊥ = λ within. d (subset-and c (present N) .0 within) in
             sym (verdict-refused M c 14 (set-absent M c (b .faultless) out) (λ e. omega arith))
             ∙ verdict-refused N c 14 (set-absent N c (a .faultless) out) (λ e. omega arith)
+
+    -- The pairs that cables join are read off the ends.
+    widths : (cuts : List ℕ) → widthsOf M cuts ≡ widthsOf N cuts
+    unfolding widthsOf widthTable widthOf pairsOf rowsFault edgesFault
+    widths cuts = rw (a .faultless, b .faultless)
 
     trimmed : (cuts sides : List ℕ)
         → (trimmedListedBy M cuts sides ≡ trimmedListedBy N cuts sides)
@@ -186,6 +192,7 @@ metres-unread = record {
   sides = λ N l. side-agree (withMetres N l) N (agree N l);
   answers = answers;
   verdicts = verdicts;
+  widths = widths;
   trimmed = trimmed;
   replay = replay;
   equality = equality;

@@ -1,10 +1,11 @@
--- The demands, loops, metres and logs, what earlier plans keep, then the halls.
+-- The demands, loops, metres, trunks and logs, what earlier plans keep, then the halls.
 pub mod DemandOne
 pub mod DemandTwo
 pub mod DemandThree
 pub mod Alike
 pub mod Loops
 pub mod Lengths
+pub mod Trunks
 pub mod Trimmed
 pub mod Replay
 pub mod Kept

@@ -4,17 +4,17 @@ use mathlib.Core.Path.{_≡_, refl, sym, ap, subst, _∙_}
 use mathlib.Core.Bool.{Bool, true, false, not}
 use mathlib.Core.List.{List}
 use mathlib.Core.Logic.{_⊎_, inl, inr, _↔_, Iff·rfl}
-use Prim.Native.Nat.{ℕ, zero, suc, _<_}
+use Prim.Native.Nat.{ℕ, zero, suc, _^_, _<_}
 use native.Mathlib.Omega.{arith}
 use lib.Dec.{T, ltb, eqb}
 use lib.ListN.{length, getD}
 use Rattle.sequences.specs.Words.{every}
 use Rattle.sequences.proofs.Tests.{T-not, T-eqb}
-use Rattle.bitset.specs.Members.{_∈_}
+use Rattle.bitset.specs.Members.{insert, _∈_}
 use Rattle.bitset.proofs.Subsets.{⊆-insert}
 use Rattle.network.specs.declared.Network.{Network}
-use Rattle.network.specs.Record.{_when_, among, unlessRefused, Stored, Slot, faultOf, edgesFault, setFault, withEdge, present}
-use Rattle.network.specs.Ends.{Loop}
+use Rattle.network.specs.Record.{_when_, among, unlessRefused, Stored, Slot, faultOf, edgesFault, setFault, rowsFault, withEdge, present}
+use Rattle.network.specs.Ends.{endsOf, Loop}
 use Rattle.network.proofs.Refusals.{then-other, when-other, among-every}
 use Rattle.network.proofs.Rules.{none-outside}
 use Rattle.network.proofs.Slots.{Faultless, accepted, accepted-none, withEdge-stored, withEdge-slots, withEdge-faultless}
@@ -30,6 +30,7 @@ use Rattle.connectivity.specs.declared.Verdict.the-variants.{Refused}
 use Rattle.connectivity.specs.Answers.{relevantOf, verdictOf, Says}
 use Rattle.connectivity.proofs.Answers.{part-refusal, verdict-right}
 use Rattle.lengths.specs.Lengths.{totalOf}
+use Rattle.widths.specs.Widths.{widthsOf}
 use Rattle.listing.specs.List.{mincuts, sourceSides, listRefusal, listedBy}
 use Rattle.trimmed.specs.Trimmed.{trimmedFault}
 use Rattle.listing.specs.Trimmed.{trimmedRefusal, trimmedListedBy}
@@ -93,12 +94,17 @@ module _ (N : Network) (stored : Stored N) (ok : faultOf N ≡ 0) (k v m : ℕ) 
         (λ j. absurd (ne (one-point v x y m j)), λ j. absurd (absent (j .0))) (λ e d. Iff·rfl) e;
   }
 
+  -- So each edge that was there joins the pair that it joined.
+  same : (e : ℕ) → e ∈ present N → endsOf M e ≡ endsOf N e
+  same =
+      withEdge-slots N stored k v v m l (λ e s. e ∈ present N → insert (2 ^ s .1) (s .2) ≡ endsOf N e) (λ i. absurd (absent i)) (λ e d i. refl)
+
   as-without : AsWithout N k v m
   unfolding withEdge
   as-without = record {
     accepted = ok′;
     read = encode-decode M stored′ ok′;
-    answers = alike M N stored′ stored ok′ ok agree (⊆-insert (present N) k);
+    answers = alike M N stored′ stored ok′ ok agree (⊆-insert (present N) k) same;
   }
 
 pub loop-added : LoopAdded
@@ -118,6 +124,10 @@ edges N b = then-other (faultOf N) (test N) (when-other 14 _ (λ e. omega arith)
 set : (N : Network) (c : ℕ) → setFault N c ≡ 10 → ⊥
 unfolding setFault
 set N c = edges N _
+
+rows : (N : Network) (cuts : List ℕ) → rowsFault N cuts ≡ 10 → ⊥
+unfolding rowsFault
+rows N cuts = edges N _
 
 judging : (N : Network) → Stored N → (c : ℕ) → verdictOf N c ≡ Refused 10 → ⊥
 judging N stored c e = let said : Says N c (Refused 10) = subst (Says N c) e (verdict-right N stored c) in set N c (said .0)
@@ -172,13 +182,14 @@ replay N log lent =
     (when-other 18 _ (λ e. omega arith) (omega arith)) (log-fault (log-case (present N) log)))
 
 pub ten-gone : TenGone
-unfolding among totalOf listedBy trimmedFault trimmedRefusal trimmedListedBy encodedBy encodeRefusal
+unfolding among totalOf widthsOf listedBy trimmedFault trimmedRefusal trimmedListedBy encodedBy encodeRefusal
 ten-gone = record {
   reader = λ s e. rw e at (decode-answer s .number);
   test = test;
   part = λ N e. test N (sym (part-refusal N (relevantOf N) refl) ∙ e);
   judging = judging;
   total = set;
+  widths = rows;
   list = list;
   trimmed = λ N cuts sides. then-other (trimmedFault N) (then-other (faultOf N) (test N) (when-other 26 _ (λ e. omega arith) (omega arith))) (list N cuts sides);
   replay = replay;

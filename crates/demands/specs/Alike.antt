@@ -1,15 +1,18 @@
 -- Two networks for which the calls answer alike.
 -- To believe.
 --
---   Alike M N        M has the useful part, the verdicts on N's cables, the list and the print of N, and logs of N's cables play back alike
+--   Alike M N        M has the useful part, the verdicts on N's cables, the widths of rows of these, the list and the print of N, and logs of
+--                    N's cables play back alike
 use mathlib.Core.List.{List}
 use mathlib.Core.Path.{_≡_}
 use Prim.Native.Nat.{ℕ}
 use Rattle.bitset.specs.Members.{_⊆_}
 use Rattle.network.specs.declared.Network.{Network}
 use Rattle.network.specs.Record.{present}
+use Rattle.network.specs.Rules.{RowsPresent}
 use Rattle.format.specs.Format.{encodeOf}
 use Rattle.connectivity.specs.Answers.{relevantOf, verdictOf}
+use Rattle.widths.specs.Widths.{widthsOf}
 use Rattle.listing.specs.List.{listedBy, cutRowsAfter, sideRowsAfter}
 use Rattle.replay.specs.Log.{eventCount, GoodEvents}
 use Rattle.replay.specs.Replay.{replayedBy, silentAfter}
@@ -19,6 +22,7 @@ use Rattle.report.specs.Report.{reportOf}
 pub record Alike (M N : Network) : Type 0 where
   pub part : relevantOf M ≡ relevantOf N
   pub verdicts : (c : ℕ) → c ⊆ present N → verdictOf M c ≡ verdictOf N c
+  pub widths : (cuts : List ℕ) → RowsPresent N cuts → widthsOf M cuts ≡ widthsOf N cuts
   pub list : (cuts sides : List ℕ)
       → (listedBy M cuts sides ≡ listedBy N cuts sides)
       × (cutRowsAfter M cuts sides ≡ cutRowsAfter N cuts sides)

@@ -1,7 +1,7 @@
 -- The customer's three demands, as statements about the calls. What a call answers and leaves is what its contract says: `decodeOf`,
--- `faultOf`, `relevantOf`, `verdictOf`, `totalOf`, `listedBy` and `trimmedListedBy` with the rows afterwards, `replayedBy` and `encodedBy`
--- with the bytes afterwards, and `reportOf` of the program. What the types of the code say of any record, `Stored N`, is in the contract of
--- every call that takes one, and what they say of any bytes, `Bytes s`, in that of the reader.
+-- `faultOf`, `relevantOf`, `verdictOf`, `totalOf`, `widthsOf`, `listedBy` and `trimmedListedBy` with the rows afterwards, `replayedBy` and
+-- `encodedBy` with the bytes afterwards, and `reportOf` of the program. What the types of the code say of any record, `Stored N`, is in the
+-- contract of every call that takes one, and what they say of any bytes, `Bytes s`, in that of the reader.
 -- To believe.
 --
 --   DemandOne        every call ends with the complete result or with the refusal that its own condition calls for
@@ -20,11 +20,12 @@ use Rattle.graph.specs.Paths.{SameMinpaths}
 use Rattle.graph.specs.Lists.{CompleteList, SameList, Outnumber}
 use Rattle.connectivity.specs.Answers.{relevantOf, verdictOf}
 use Rattle.lengths.specs.Lengths.{totalOf}
+use Rattle.widths.specs.Widths.{widthsOf}
 use Rattle.listing.specs.List.{listedBy, cutRowsAfter, sideRowsAfter}
 use Rattle.listing.specs.Trimmed.{trimmedListedBy, trimmedCutRows, trimmedSideRows}
 use Rattle.replay.specs.Replay.{replayedBy, silentAfter}
 use Rattle.report.specs.Report.{reportOf}
-use Rattle.demands.specs.Endings.{ReaderEnds, PartEnds, JudgingEnds, TotalEnds, ListEnds, TrimmedEnds, ReplayEnds, WriterEnds, ReportEnds}
+use Rattle.demands.specs.Endings.{ReaderEnds, PartEnds, JudgingEnds, TotalEnds, WidthsEnds, ListEnds, TrimmedEnds, ReplayEnds, WriterEnds, ReportEnds}
 
 pub record DemandOne : Type 0 where
   -- The record test finds no fault exactly if the record keeps the rules.
@@ -35,6 +36,7 @@ pub record DemandOne : Type 0 where
   pub part : (N : Network) → Stored N → PartEnds N (relevantOf N)
   pub judging : (N : Network) → Stored N → (c : ℕ) → JudgingEnds N c (verdictOf N c)
   pub total : (N : Network) (c : ℕ) → TotalEnds N c (totalOf N c)
+  pub widths : (N : Network) (cuts : List ℕ) → WidthsEnds N cuts (widthsOf N cuts)
   pub list : (N : Network) → Stored N → (cuts sides : List ℕ)
       → ListEnds N cuts sides (listedBy N cuts sides) (cutRowsAfter N cuts sides) (sideRowsAfter N cuts sides)
   -- "Too many cuts" exactly if no earlier fault stands and the mincuts outnumber the rows lent.

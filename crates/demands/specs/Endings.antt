@@ -9,6 +9,7 @@
 --   PartEnds N p                     finding the relevant part of N gives p
 --   JudgingEnds N c v                judging the set c in N gives v
 --   TotalEnds N c m                  adding up the metres of the set c in N gives m
+--   WidthsEnds N cuts a              counting the rows `cuts` of N by width gives a
 --   Kept n before after              lent rows or bytes: as many as before, and past the first n what they held
 --   ListEnds N cuts sides l cuts′ sides′     listing N into rows that held `cuts` and `sides` gives l and leaves cuts′ and sides′
 --   TrimmedEnds N cuts sides l cuts′ sides′  listing N, trimmed already, into such rows gives l and leaves cuts′ and sides′
@@ -20,12 +21,12 @@ use mathlib.Core.Logic.{_↔_}
 use mathlib.Core.Path.{_≡_}
 use Prim.Native.Nat.{ℕ, suc, _%_, _≤_, _<_}
 use lib.Dec.{T}
-use lib.ListN.{length, getD, drop}
+use lib.ListN.{length, getD, drop, replicate}
 use Rattle.sequences.specs.Words.{onto}
 use Rattle.bitset.specs.Members.{_∈_, _⊆_}
 use Rattle.network.specs.declared.Network.{Network}
 use Rattle.network.specs.Record.{among, Stored, faultOf, present}
-use Rattle.network.specs.Rules.{Rules}
+use Rattle.network.specs.Rules.{Rules, RowsPresent}
 use Rattle.format.specs.declared.Decoded.{Decoded}
 use Rattle.format.specs.declared.Encoded.{Encoded}
 use Rattle.format.specs.Format.{readerRefusals, accept, refuse, decodeOf, encodeOf}
@@ -36,6 +37,8 @@ use Rattle.connectivity.specs.declared.Verdict.{Verdict}
 use Rattle.connectivity.specs.Answers.{partFrom, Says, numbersOf}
 use Rattle.lengths.specs.declared.Measured.{Measured}
 use Rattle.lengths.specs.Lengths.{totalMetres}
+use Rattle.widths.specs.declared.Widths.{Widths}
+use Rattle.widths.specs.Widths.{widthTable}
 use Rattle.listing.specs.declared.Listed.{Listed}
 use Rattle.replay.specs.declared.Replayed.{Replayed}
 use Rattle.replay.specs.Log.{eventCount, edgeAt, downAfter, Command, GoodEvents, LogRules}
@@ -63,6 +66,12 @@ pub data TotalEnds (N : Network) (c : ℕ) : Measured → Type 0 where
   total : Rules N → c ⊆ present N → TotalEnds N c (record { refusal = 0; metres = totalMetres N c })
   faulty : 0 < faultOf N → TotalEnds N c (record { refusal = faultOf N; metres = 0 })
   absent : Rules N → (c ⊆ present N → ⊥) → TotalEnds N c (record { refusal = 14; metres = 0 })
+
+-- The rows by width; 14 for a row with an edge that is not present. On refusal every count is 0.
+pub data WidthsEnds (N : Network) (cuts : List ℕ) : Widths → Type 0 where
+  counted : Rules N → RowsPresent N cuts → WidthsEnds N cuts (record { refusal = 0; counts = widthTable N cuts })
+  faulty : 0 < faultOf N → WidthsEnds N cuts (record { refusal = faultOf N; counts = replicate 65 0 })
+  absent : Rules N → (RowsPresent N cuts → ⊥) → WidthsEnds N cuts (record { refusal = 14; counts = replicate 65 0 })
 
 pub record Kept (n : ℕ) (before after : List ℕ) : Type 0 where
   pub size : length after ≡ length before

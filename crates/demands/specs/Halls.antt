@@ -17,7 +17,7 @@
 --   halls                all of these
 --
 --   networkOf h          the record read from the bytes
---   widthTable h         the 65 counts of the width table
+--   countsOf h           the 65 counts of the width table
 --   same l m             whether two lists are equal  [computed: halls-established (demands/proofs/Halls)]
 --   judgedTest N j       whether what the table says of a judged set is what is computed
 --                        [computed: halls-established (demands/proofs/Halls)]
@@ -36,7 +36,7 @@ use Rattle.sequences.specs.Words.{every}
 use Rattle.bitset.specs.Members.{_∈_}
 use Rattle.network.specs.declared.Network.{Network}
 use Rattle.format.specs.Format.{decodeOf}
-use Rattle.widths.specs.Widths.{widthsOf}
+use Rattle.widths.specs.Widths.{widthTable}
 use Rattle.graph.specs.Paths.{Connected}
 use Rattle.graph.specs.Cuts.{Cut, Mincut, RelevantEdge, RelevantNode}
 use Rattle.graph.specs.Lists.{CompleteList}
@@ -141,14 +141,14 @@ noCable = record {
   printed = bytes "cuts 1\n- | 0\n";
 }
 
--- Two points, cables 0 and 1.
+-- Two points, cables 0 and 1. Both join the same two points: one row of width 1.
 unfoldable pub twoCables : Hall
 twoCables = record {
   plan = 0x50 ∷ 2 ∷ 0x53 ∷ 0 ∷ 1 ∷ 0x43 ∷ 0 ∷ 0 ∷ 1 ∷ 0x43 ∷ 1 ∷ 0 ∷ 1 ∷ 0x45 ∷ [];
   cuts = 3 ∷ [];
   sides = 1 ∷ [];
   judged = [];
-  widths = 0 ∷ 0 ∷ 1 ∷ [];
+  widths = 0 ∷ 1 ∷ [];
   reached = 3;
   nodes = 3;
   edges = 3;
@@ -191,8 +191,8 @@ abbrev pub networkOf : Hall → Network
 networkOf h = decodeOf (h .plan) .network
 
 -- No cut is wider than the table says.
-abbrev pub widthTable : Hall → List ℕ
-widthTable h = h .widths ++ replicate (65 - length (h .widths)) 0
+abbrev pub countsOf : Hall → List ℕ
+countsOf h = h .widths ++ replicate (65 - length (h .widths)) 0
 
 unfoldable pub same : List ℕ → List ℕ → Bool
 same [] [] = true
@@ -209,7 +209,7 @@ hallTests h =
     ∷ same (mincuts (networkOf h)) (h .cuts)
     ∷ same (sourceSides (networkOf h)) (h .sides)
     ∷ every (judgedTest (networkOf h)) (h .judged)
-    ∷ same (widthsOf (h .cuts)) (widthTable h)
+    ∷ same (widthTable (networkOf h) (h .cuts)) (countsOf h)
     ∷ eqb (reachOf (networkOf h) (2 ^ networkOf h .source)) (h .reached)
     ∷ eqb (relevantNodes (networkOf h)) (h .nodes)
     ∷ eqb (relevantEdges (networkOf h)) (h .edges)
@@ -225,7 +225,7 @@ pub record Established (h : Hall) : Type 0 where
   pub accepted : decodeOf (h .plan) .refusal ≡ 0
   pub complete : CompleteList (networkOf h) (length (h .cuts)) (h .cuts) (h .sides)
   pub judged : (j : JudgedSet) → List·Memᴰ j (h .judged) → (T (j .cut) ↔ Cut (networkOf h) (j .set)) × (T (j .mincut) ↔ Mincut (networkOf h) (j .set))
-  pub widths : widthsOf (h .cuts) ≡ widthTable h
+  pub widths : widthTable (networkOf h) (h .cuts) ≡ countsOf h
   pub reached : (v : ℕ) → (v ∈ h .reached) ↔ Connected (networkOf h) (networkOf h .source) v
   pub nodes : (v : ℕ) → (v ∈ h .nodes) ↔ RelevantNode (networkOf h) v
   pub edges : (e : ℕ) → (e ∈ h .edges) ↔ RelevantEdge (networkOf h) e

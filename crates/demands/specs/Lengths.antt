@@ -20,6 +20,7 @@ use Rattle.graph.specs.Paths.{SameMinpaths}
 use Rattle.graph.specs.Cuts.{Mincut, OnSourceSide}
 use Rattle.graph.specs.Lists.{SameList}
 use Rattle.connectivity.specs.Answers.{verdictOf}
+use Rattle.widths.specs.Widths.{widthsOf}
 use Rattle.listing.specs.List.{listedBy, cutRowsAfter}
 use Rattle.listing.specs.Trimmed.{trimmedListedBy, trimmedCutRows, trimmedSideRows}
 use Rattle.replay.specs.Replay.{replayedBy, silentAfter}
@@ -67,6 +68,8 @@ pub record MetresUnread : Type 0 where
   pub answers : (N : Network) (l : List ℕ) → Accepted N → Accepted (withMetres N l) → Alike (withMetres N l) N
   -- On sets with an absent cable too.
   pub verdicts : (N : Network) (l : List ℕ) → Accepted N → Accepted (withMetres N l) → (c : ℕ) → verdictOf (withMetres N l) c ≡ verdictOf N c
+  -- On rows with an absent cable too.
+  pub widths : (N : Network) (l : List ℕ) → Accepted N → Accepted (withMetres N l) → (cuts : List ℕ) → widthsOf (withMetres N l) cuts ≡ widthsOf N cuts
   -- Listed as trimmed already.
   pub trimmed : (N : Network) (l : List ℕ) → Accepted N → Accepted (withMetres N l) → (cuts sides : List ℕ)
       → (trimmedListedBy (withMetres N l) cuts sides ≡ trimmedListedBy N cuts sides)

@@ -1,9 +1,11 @@
--- The demands, how each call ends, what holds of loops, of metres and of logs, what earlier plans keep, and the table of the starred halls.
+-- The demands, how each call ends, what holds of loops, of metres, of trunks and of logs, what earlier plans keep, and the table of the
+-- starred halls.
 pub mod Endings
 pub mod Demands
 pub mod Alike
 pub mod Loops
 pub mod Lengths
+pub mod Trunks
 pub mod Trimmed
 pub mod Replay
 pub mod Kept

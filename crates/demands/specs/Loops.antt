@@ -18,6 +18,7 @@ use Rattle.graph.specs.Cuts.{Mincut, RelevantEdge}
 use Rattle.connectivity.specs.declared.Verdict.the-variants.{Refused}
 use Rattle.connectivity.specs.Answers.{relevantOf, verdictOf}
 use Rattle.lengths.specs.Lengths.{totalOf}
+use Rattle.widths.specs.Widths.{widthsOf}
 use Rattle.listing.specs.List.{listedBy}
 use Rattle.listing.specs.Trimmed.{trimmedListedBy}
 use Rattle.replay.specs.Replay.{replayedBy}
@@ -46,6 +47,7 @@ pub record TenGone : Type 0 where
   pub part : (N : Network) → relevantOf N .refusal ≡ 10 → ⊥
   pub judging : (N : Network) → Stored N → (c : ℕ) → verdictOf N c ≡ Refused 10 → ⊥
   pub total : (N : Network) (c : ℕ) → totalOf N c .refusal ≡ 10 → ⊥
+  pub widths : (N : Network) (cuts : List ℕ) → widthsOf N cuts .refusal ≡ 10 → ⊥
   pub list : (N : Network) (cuts sides : List ℕ) → listedBy N cuts sides .refusal ≡ 10 → ⊥
   pub trimmed : (N : Network) (cuts sides : List ℕ) → trimmedListedBy N cuts sides .refusal ≡ 10 → ⊥
   pub replay : (N : Network) (log lent : List ℕ) → replayedBy N log lent .refusal ≡ 10 → ⊥

@@ -88,6 +88,13 @@ impl EdgeSet {
         EdgeSet(self.0 & !other.0)
     }
 
+    // Whether there are no members.
+    pub fn is_empty(self) -> bool
+        ensures { λ r. ⌜ r ≡ eqb (self .0) 0 ⌝ }
+    {
+        self.0 == 0
+    }
+
     // Whether every member is a member of the other.
     pub fn is_subset(self, other: EdgeSet) -> bool
         ensures { λ r. ⌜ Decides r (self .0 ⊆ other .0) ⌝ }

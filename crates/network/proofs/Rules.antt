@@ -92,3 +92,14 @@ fault-rules N = (kept, λ r. accepted-none N (faultless r))
 -- Beside the number stands what it means.
 pub fault-means : (N : Network) → Stored N → {r : ℕ} → r ≡ faultOf N → (r ≡ faultOf N) × FaultMeans N r
 fault-means N stored e = (e, record { stored = stored; kept = rw e (fault-rules N) })
+
+-- The ends in every slot of an accepted network are below the width.
+pub ends-within : (N : Network) → faultOf N ≡ 0 → (k : ℕ) → k < 64 → (firstEnd N k < nodeWidth) × (secondEnd N k < nodeWidth)
+ends-within N ok k h = go (∈-dec k (present N))
+  where
+    rules : Rules N
+    rules = fault-rules N .0 ok
+
+    go : Dec (k ∈ present N) → (firstEnd N k < nodeWidth) × (secondEnd N k < nodeWidth)
+    go (yes m) = let e = rules .ends k h m in (omega (arith, rules .size), omega (arith, rules .size))
+    go (no n) = let e = rules .absent k h n in (omega arith, omega arith)

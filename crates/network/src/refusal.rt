@@ -35,7 +35,7 @@ pub const TOO_MANY_CUTS: u8 = 12; // more minimal cuts than rows lent
 
 pub const ABSENT_EDGE_NOT_ZERO: u8 = 13; // an absent cable with an end or metres not 0
 
-pub const EDGE_NOT_PRESENT: u8 = 14; // a given set holds a cable not present
+pub const EDGE_NOT_PRESENT: u8 = 14; // a given set or row holds a cable not present
 
 pub const BUFFER_TOO_SHORT: u8 = 15; // the plan needs more bytes than were lent
 

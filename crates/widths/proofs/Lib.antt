@@ -1,2 +1,7 @@
--- The laws of the width table.
+-- The laws of widths.
+pub mod Pairs
+pub mod Leading
 pub mod WidthTable
+pub mod RowBlocks
+pub mod Answers
+pub mod Agree

@@ -1,2 +1,3 @@
 -- The definitions that the contracts of `widths` cite.
 pub mod Widths
+pub mod Twins

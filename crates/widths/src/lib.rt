@@ -1,26 +1,64 @@
-// The width table: how many rows there are of each width, the number of edges in a cut.
-use edge_set::EdgeSet;
-ghost use mathlib.Core.Path.{_≡_};
-ghost use Rattle.bitset.specs.Members.{size};
-ghost use Rattle.widths.specs.Widths.{widthsOf};
+// Widths: `width_table`, how many rows of a list there are of each width. It takes whatever it is given.
+mod blocks;
+mod twins;
 
-// The number of edges in a cut.
-fn width(cut: u64) -> usize
-    ensures { λ r. ⌜ r ≡ size 64 cut ⌝ }
-{
-    EdgeSet(cut).size() as usize
+use blocks::BLOCK;
+use blocks::block;
+use blocks::count;
+use blocks::leading_sizes;
+use blocks::sizes;
+use blocks::together;
+use edge_set::EdgeSet;
+use network::Network;
+use network::fault;
+use network::refusal::EDGE_NOT_PRESENT;
+use twins::leading;
+use twins::lower_twins;
+ghost use mathlib.Core.Path.{_≡_};
+ghost use Rattle.widths.specs.Widths.{widthsOf, WidthsMean};
+
+// The answer: the refusal's number, 0 if there is none, beside the number of rows of each width from 0 to 64, all 0 on refusal.
+pub struct Widths {
+    pub refusal: u8,
+    pub counts: [u64; 65],
 }
 
-// The number of rows of each width from 0 to 64.
-pub fn width_table(cuts: &[u64]) -> [u64; 65]
-    ensures { λ r. ⌜ r ≡ widthsOf (now (cuts .entry)) ⌝ }
+// The width table of a list: the record's first fault, then 14 for a row with an edge that is not present; else its rows by width. They are
+// looked at block by block: where no edge of a block has a lower twin, each row joins as many pairs as it has edges.
+pub fn width_table(network: Network, cuts: &[u64]) -> Widths
+    ensures { λ r. ⌜ r ≡ widthsOf network (now (cuts .entry)) ⌝ }
+    ensures means { λ r. ⌜ WidthsMean network (now (cuts .entry)) (r .refusal) (r .counts) ⌝ }
 {
+    let refusal = fault(network);
+    if refusal != 0 {
+        return Widths {
+            refusal,
+            counts: [0u64; 65],
+        };
+    }
+    let lower = lower_twins(network);
+    let alone = leading(&lower, EdgeSet::empty(), network.present);
     let mut counts = [0u64; 65];
+    let mut widths = [0u64; BLOCK];
     let mut i = 0;
     while i < cuts.len() {
-        let w = width(cuts[i]);
-        counts[w] += 1;
-        i += 1;
+        let n = block(cuts.len() - i);
+        let end = i + n;
+        let rows = &cuts[i..end];
+        let edges = together(rows);
+        if edges.is_subset(alone) {
+            sizes(rows, &mut widths[..n]);
+        } else {
+            if !edges.is_subset(network.present) {
+                return Widths {
+                    refusal: EDGE_NOT_PRESENT,
+                    counts: [0u64; 65],
+                };
+            }
+            leading_sizes(&lower, alone, rows, &mut widths[..n]);
+        }
+        count(&mut counts, &widths[..n]);
+        i = end;
     }
-    counts
+    Widths { refusal: 0, counts }
 }

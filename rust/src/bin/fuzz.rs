@@ -10,9 +10,10 @@
 //!   --file FILE    the bytes of a file alone
 //!   --smoke        a fixed seed and number of cases, which must meet every kind of answer
 //!   --digest       one number for all that the library answers on the cases of the smoke run, or on
-//!                  those of --seed and --cases, but for the lists of trimmed plans and for logs
+//!                  those of --seed and --cases, but for the lists of trimmed plans, logs and widths
 //!   --trimmed      with --digest: the number of these lists alone
 //!   --replay       with --digest: the number of what is written for logs alone
+//!   --widths       with --digest: the number of the width tables alone
 //!   --without-loops
 //!                  with --digest: leaves out the cases in which a cable has both ends at one point, so
 //!                  that a library that refuses such cables gives the same number
@@ -28,7 +29,7 @@ use std::time::{Duration, Instant, SystemTime, UNIX_EPOCH};
 
 use cutlist_tests::fuzz::case::Case;
 use cutlist_tests::fuzz::counts::Counts;
-use cutlist_tests::fuzz::digest::{digest, replay_digest, trimmed_digest};
+use cutlist_tests::fuzz::digest::{digest, replay_digest, trimmed_digest, widths_digest};
 use cutlist_tests::fuzz::search::{panic_of, search, Difference};
 use cutlist_tests::fuzz::shrinking::shrink;
 use cutlist_tests::fuzz::{making, questions};
@@ -54,6 +55,7 @@ struct Options {
     digest: bool,
     trimmed: bool,
     replay: bool,
+    widths: bool,
     without_loops: bool,
     without_lengths: bool,
 }
@@ -75,6 +77,7 @@ impl Options {
                 "--digest" => options.digest = true,
                 "--trimmed" => options.trimmed = true,
                 "--replay" => options.replay = true,
+                "--widths" => options.widths = true,
                 "--without-loops" => options.without_loops = true,
                 "--without-lengths" => options.without_lengths = true,
                 _ => return Err(format!("{name} is no option")),
@@ -83,6 +86,7 @@ impl Options {
         for (given, name) in [
             (options.trimmed, "--trimmed"),
             (options.replay, "--replay"),
+            (options.widths, "--widths"),
             (options.without_loops, "--without-loops"),
             (options.without_lengths, "--without-lengths"),
         ] {
@@ -90,9 +94,10 @@ impl Options {
                 return Err(format!("{name} goes with --digest alone"));
             }
         }
-        match options.trimmed && options.replay {
-            true => Err("--trimmed and --replay are numbers of their own".to_string()),
-            false => Ok(options),
+        let alone = [options.trimmed, options.replay, options.widths];
+        match alone.into_iter().filter(|&given| given).count() {
+            0 | 1 => Ok(options),
+            _ => Err("--trimmed, --replay and --widths are numbers of their own".to_string()),
         }
     }
 }
@@ -123,9 +128,10 @@ fn tell_digest(options: &Options) -> ExitCode {
         .map(|case| make(seed, case))
         .filter(|bytes| !options.without_loops || !Case::of(bytes).has_loop())
         .filter(|bytes| !options.without_lengths || !bytes.contains(&0x4D));
-    let number = match (options.trimmed, options.replay) {
-        (true, _) => trimmed_digest(cases),
-        (_, true) => replay_digest(cases),
+    let number = match (options.trimmed, options.replay, options.widths) {
+        (true, ..) => trimmed_digest(cases),
+        (_, true, _) => replay_digest(cases),
+        (.., true) => widths_digest(cases),
         _ => digest(cases),
     };
     println!("{number:016x}");

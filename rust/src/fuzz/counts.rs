@@ -4,7 +4,7 @@ use std::fmt;
 
 use crate::answers::Part;
 use crate::answers::Verdict::{Minimal, NotCut, NotMinimal};
-use crate::brute::members;
+use crate::brute::{self, members};
 use crate::plans;
 use crate::record::{Record, MOST_NODES};
 use crate::reference::{self, FAULTS, LONGEST_PLAN, READING};
@@ -27,7 +27,7 @@ pub struct Counts {
     pub list: Tally,
     pub list_trimmed: Tally,
     pub replay: Tally,
-    pub widths: u64,
+    pub widths: Tally,
     pub verdicts: Verdicts,
     /// Halls with a complete list, by length: one row, or more.
     pub short_lists: u64,
@@ -71,6 +71,12 @@ pub struct Counts {
     pub half_events_behind: u64,
     /// Logs with one byte less lent than there are whole events, with as many, one more and two more.
     pub lent_to_logs: [u64; 4],
+    /// Rows counted by width: all, those that are narrower than they have cables, and those that hold a
+    /// cable and not the lowest of those between the same points. Lists without a row.
+    pub rows_counted: u64,
+    pub narrow_rows: u64,
+    pub rows_without_the_lowest: u64,
+    pub lists_without_a_row: u64,
 }
 
 impl Counts {
@@ -162,8 +168,27 @@ impl Counts {
         }
     }
 
+    /// Notes the answer to a list that was to be counted by width.
+    pub fn counted(&mut self, record: &Record, rows: &[u64], number: u8) {
+        self.widths.count(number);
+        if number != 0 {
+            return;
+        }
+        let trunks = brute::trunks(record);
+        let some = |row: u64, kind: fn(u64, u64) -> bool| -> u64 {
+            members(row).any(|edge| kind(trunks[edge], row)).into()
+        };
+        for &row in rows {
+            self.narrow_rows += some(row, |trunk, row| (trunk & row).count_ones() > 1);
+            self.rows_without_the_lowest +=
+                some(row, |trunk, row| 1 << trunk.trailing_zeros() & row == 0);
+        }
+        self.rows_counted += rows.len() as u64;
+        self.lists_without_a_row += u64::from(rows.is_empty());
+    }
+
     /// Every refusal of every function occurred and no other, every verdict, short and long lists,
-    /// long ways, loops, trimmed halls, lengths and logs.
+    /// long ways, loops, trimmed halls, lengths, logs and widths.
     pub fn assert_wide(&self) {
         for (tally, of_the_plan, more) in [
             (&self.decode, READING, &[][..]),
@@ -175,13 +200,13 @@ impl Counts {
             (&self.list, FAULTS, &[11, 12]),
             (&self.list_trimmed, FAULTS, &[26, 11, 12]),
             (&self.replay, FAULTS, &[16, 17, 18]),
+            (&self.widths, FAULTS, &[14]),
         ] {
             let numbers = [&[0], of_the_plan, more].concat();
             tally.assert_only(&numbers);
             tally.assert_each(&numbers, 50);
         }
         self.verdicts.assert_each(500);
-        assert!(self.widths >= self.cases, "{self}");
         assert!(self.short_lists >= 500, "{self}");
         assert!(self.longer_lists >= 5_000, "{self}");
         assert!(self.most_rows >= 2_000, "{self}");
@@ -216,14 +241,18 @@ impl Counts {
             self.lent_to_logs.iter().all(|&logs| logs >= 20_000),
             "{self}"
         );
+        self.widths.assert_each(&[0, 14], 40_000);
+        assert!(self.narrow_rows >= 100_000, "{self}");
+        assert!(self.rows_without_the_lowest >= 100_000, "{self}");
+        assert!(self.lists_without_a_row >= 1_000, "{self}");
     }
 }
 
 /// One line.
 impl fmt::Display for Counts {
     fn fmt(&self, f: &mut fmt::Formatter<'_>) -> fmt::Result {
-        write!(f, "{} cases; questions:", self.cases)?;
         let mut all = Tally::default();
+        let mut questions = Vec::new();
         for (name, tally) in [
             ("decode", &self.decode),
             ("fault", &self.fault),
@@ -234,11 +263,13 @@ impl fmt::Display for Counts {
             ("list", &self.list),
             ("list_trimmed", &self.list_trimmed),
             ("replay", &self.replay),
+            ("widths", &self.widths),
         ] {
-            write!(f, " {name} {},", tally.total())?;
+            questions.push(format!("{name} {}", tally.total()));
             all += tally.clone();
         }
-        write!(f, " widths {}; refusals:", self.widths)?;
+        let questions = questions.join(", ");
+        write!(f, "{} cases; questions: {questions}; refusals:", self.cases)?;
         for (number, count) in all.iter().filter(|&(number, _)| number != 0) {
             write!(f, " {number} ({count}),")?;
         }
@@ -256,7 +287,9 @@ impl fmt::Display for Counts {
              {} totals above 65535, up to {}; \
              events played back: {} heard, {} silent, {} that silence, {} that bring back, {} repeats, up to {} in a log; \
              {} half events, {} behind another fault; \
-             logs with one byte too few lent, as many, one more and two more: {:?}",
+             logs with one byte too few lent, as many, one more and two more: {:?}; \
+             {} rows counted, {} of them narrower than they have cables, {} without the lowest cable of a pair; \
+             {} lists without a row counted",
             all.of(0),
             self.short_lists,
             self.longer_lists,
@@ -286,7 +319,11 @@ impl fmt::Display for Counts {
             self.most_events,
             self.half_events,
             self.half_events_behind,
-            self.lent_to_logs
+            self.lent_to_logs,
+            self.rows_counted,
+            self.narrow_rows,
+            self.rows_without_the_lowest,
+            self.lists_without_a_row
         )
     }
 }

@@ -3,12 +3,12 @@
 //! it was. The reference has no part in it, and neither have names and types: a number counts as its
 //! eight bytes, whatever its width. Lengths count where there are any: a case without them gives the
 //! number that it gave before plans had them. The lists of trimmed plans have a number of their own,
-//! and so have the logs.
+//! and so have the logs and the width tables.
 
 use crate::answers::Nodes;
 use crate::brute::members;
 use crate::fuzz::case::{self, Case};
-use crate::fuzz::questions::{ample, lent_bytes, lent_rows, logs, sets, LONGEST_LIST};
+use crate::fuzz::questions::{self, ample, lent_bytes, lent_rows, logs, sets, LONGEST_LIST};
 use crate::lent;
 use crate::plans;
 use crate::record::Record;
@@ -63,10 +63,8 @@ pub fn trimmed_digest(cases: impl IntoIterator<Item = Vec<u8>>) -> u64 {
 /// The number of what is written for their logs.
 pub fn replay_digest(cases: impl IntoIterator<Item = Vec<u8>>) -> u64 {
     digest_of(cases, |case, digest| {
-        let (mut cuts, mut sides) = (vec![0; LONGEST_LIST], vec![0; LONGEST_LIST]);
-        let (_, rows) = sys::list(&case.record, &mut cuts, &mut sides);
         let mut rng = Rng::new(!case.set);
-        for (log, lent) in logs(case, &cuts[..rows], &mut rng) {
+        for (log, lent) in logs(case, &listed(&case.record), &mut rng) {
             let mut silent = rng.bytes(lent);
             let (refusal, count) = sys::replay(&case.record, &log, &mut silent);
             digest.number(refusal);
@@ -74,6 +72,25 @@ pub fn replay_digest(cases: impl IntoIterator<Item = Vec<u8>>) -> u64 {
             digest.bytes(&silent);
         }
     })
+}
+
+/// The number of their width tables.
+pub fn widths_digest(cases: impl IntoIterator<Item = Vec<u8>>) -> u64 {
+    digest_of(cases, |case, digest| {
+        for rows in questions::lists(case, &listed(&case.record)) {
+            let (refusal, table) = sys::widths(&case.record, &rows);
+            digest.number(refusal);
+            digest.numbers(&table);
+        }
+    })
+}
+
+/// The cuts of a record, none if it is refused or they are too many.
+fn listed(record: &Record) -> Vec<u64> {
+    let (mut cuts, mut sides) = (vec![0; LONGEST_LIST], vec![0; LONGEST_LIST]);
+    let (_, rows) = sys::list(record, &mut cuts, &mut sides);
+    cuts.truncate(rows);
+    cuts
 }
 
 fn digest_of(
@@ -87,7 +104,7 @@ fn digest_of(
     digest.0
 }
 
-/// Asks every function but those for trimmed plans and for logs.
+/// Asks every function but those for trimmed plans, for logs and for widths.
 fn answers(case: &Case, digest: &mut Digest) {
     let record = &case.record;
     let mut rng = Rng::new(case.set);
@@ -124,10 +141,6 @@ fn answers(case: &Case, digest: &mut Digest) {
             digest.number(refusal);
             digest.number(total);
         }
-    }
-
-    for cuts in [case::words(case.body), cuts] {
-        digest.numbers(&sys::widths(&cuts));
     }
 }
 

@@ -4,6 +4,7 @@ use crate::answers::{Part, Row, Verdict};
 use crate::fuzz::case::{self, Case, Size};
 use crate::fuzz::counts::Counts;
 use crate::lent;
+use crate::lists;
 use crate::logs;
 use crate::record::{Record, SLOTS};
 use crate::reference::LONGEST_PLAN;
@@ -20,7 +21,6 @@ pub fn ask(bytes: &[u8], counts: &mut Counts) {
     counts.cases += 1;
     reading(&case, counts);
     on_the_record(&case, counts);
-    widths(&case::words(case.body), counts);
 }
 
 fn reading(case: &Case, counts: &mut Counts) {
@@ -69,7 +69,10 @@ fn on_the_record(case: &Case, counts: &mut Counts) {
     playing_back(case, &known, &cuts, counts);
     if !cuts.is_empty() {
         counts.listed(cuts.len(), known.part);
-        widths(&cuts, counts);
+    }
+    for rows in lists(case, &cuts) {
+        let (number, _) = compare::widths(record, &rows);
+        counts.counted(record, &rows, number);
     }
 }
 
@@ -162,11 +165,6 @@ fn trimmed(case: &Case, known: &Known, rng: &mut Rng, counts: &mut Counts) {
     }
 }
 
-fn widths(cuts: &[u64], counts: &mut Counts) {
-    compare::widths(cuts);
-    counts.widths += 1;
-}
-
 /// The number of bytes to lend to the writer.
 pub fn lent_bytes(case: &Case) -> usize {
     let present = case.record.present;
@@ -213,6 +211,20 @@ pub fn logs(case: &Case, cuts: &[u64], rng: &mut Rng) -> Vec<(Vec<u8>, usize)> {
         (log, lent)
     };
     all.into_iter().map(with_lent).collect()
+}
+
+/// The lists to count by width: any words, rows of the record's cables, those with one cable that it
+/// has not in the first row, the middle one or the last, and the list, if it is known, or no row.
+pub fn lists(case: &Case, cuts: &[u64]) -> Vec<Vec<u64>> {
+    let record = &case.record;
+    let mut rng = Rng::numbered(case.set, 0);
+    let count = 1 + rng.below(20);
+    let rows = lists::rows(&mut rng, record, count);
+    let place = rng.pick(&[0, count / 2, count - 1]);
+    let absent = lists::with_absent(&mut rng, record, &rows, place);
+    let mut all = vec![case::words(case.body), cuts.to_vec(), rows];
+    all.extend(absent);
+    all
 }
 
 /// The numbers of cut rows and side rows to lend: those of the case, and exactly the rows needed, if
