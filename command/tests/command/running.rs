@@ -14,6 +14,20 @@ pub const BRIDGE: &[u8] = b"\x50\x04\x53\x00\x03\x43\x00\x00\x01\x43\x01\x00\x02
     \x43\x03\x01\x03\x43\x04\x02\x03\x45";
 pub const BRIDGE_LIST: &str = "cuts 4\n0 1 | 0\n1 2 3 | 0 1\n0 2 4 | 0 2\n3 4 | 0 1 2\n";
 
+/// Plans that are refused as they are read, none of them trimmed: the number, its words, and the plan
+/// as text.
+pub const REFUSED: [(u8, &str, &str); 5] = [
+    (1, "the plan stops early", "50 04 53 00 02 43 00 00 00"),
+    (4, "point count not 2 to 64", "50 41"),
+    (6, "server and room the same point", "50 03 53 02 02 45"),
+    (
+        9,
+        "a cable end not below the point count",
+        "50 03 53 00 02 43 00 00 00 43 01 00 03 45",
+    ),
+    (3, "a byte after 45", "50 03 53 00 02 45 45"),
+];
+
 /// The repository's folder. A first run of the command has built what is missing there, so that no
 /// test finds a build among what it looks at.
 pub fn root() -> PathBuf {

@@ -84,17 +84,7 @@ fn any_other_plan_is_26() {
 #[test]
 fn what_is_wrong_with_the_plan_comes_before_26() {
     let folder = Folder::new();
-    for (number, words, plan) in [
-        (1, "the plan stops early", "50 04 53 00 02 43 00 00 00"),
-        (4, "point count not 2 to 64", "50 41"),
-        (6, "server and room the same point", "50 03 53 02 02 45"),
-        (
-            9,
-            "a cable end not below the point count",
-            "50 03 53 00 02 43 00 00 00 43 01 00 03 45",
-        ),
-        (3, "a byte after 45", "50 03 53 00 02 45 45"),
-    ] {
+    for (number, words, plan) in REFUSED {
         assert_same(&[&folder.file("plan.hex", plan)]).refused(number, words);
     }
     let words = "a length that is not of the cable just before it, or of 0 metres";

@@ -89,17 +89,7 @@ fn more_cuts_than_the_list_program_has_rows_are_12() {
 #[test]
 fn a_plan_is_refused_as_it_is_where_it_is_listed() {
     let folder = Folder::new();
-    for (number, words, plan) in [
-        (1, "the plan stops early", "50 04 53 00 02 43 00 00 00"),
-        (4, "point count not 2 to 64", "50 41"),
-        (6, "server and room the same point", "50 03 53 02 02 45"),
-        (
-            9,
-            "a cable end not below the point count",
-            "50 02 53 00 01 43 00 00 01 43 01 02 00 45",
-        ),
-        (3, "a byte after 45", "50 03 53 00 02 45 45"),
-    ] {
+    for (number, words, plan) in REFUSED {
         let plan = &folder.file("plan.hex", plan);
         let (ended, listed) = (widths(&[plan]), cutlist(&[plan]));
         ended.refused(number, words);
