@@ -39,9 +39,10 @@
  * and from signal handlers, as long as no call is given memory that another one writes.
  *
  * Each call takes at most CUTLIST_STACK_BYTES of stack; cutlist_list and cutlist_list_trimmed take
- * the most, and every other call less than 2 KiB: rust/tests/stack.rs measures it, on halls where
- * the list goes as deep as it can. Of the list's stack 32 KiB hold rows that it keeps while it
- * counts them. The list program makes all that it prints on its stack, and needs 896 KiB.
+ * the most, cutlist_widths less than 3 KiB, and every other call less than 2 KiB:
+ * rust/tests/stack.rs measures it, on halls where the list goes as deep as it can. Of the list's
+ * stack 32 KiB hold rows that it keeps while it counts them. The list program makes all that it
+ * prints on its stack, and needs 896 KiB.
  */
 #ifndef CUTLIST_H
 #define CUTLIST_H
