@@ -7,7 +7,7 @@ use mathlib.Core.Logic.{inl, inr, _↔_, Dec·and}
 use Prim.Native.Nat.{ℕ, _≤_, _<_}
 use native.Mathlib.Decide.{ℕ-discrete}
 use native.Mathlib.Omega.{arith}
-use lib.ListN.{length, length-map}
+use lib.ListN.{length-map}
 use Rattle.sequences.specs.Distinct.{Distinct, once}
 use Rattle.sequences.proofs.First.{first-number}
 use Rattle.sequences.proofs.Distinct.{rising-distinct, distinct-map, distinct-at-most, distinct-length, in-once, once-distinct}

@@ -64,7 +64,8 @@ module _ (N : Network) (cuts : List ℕ) (i n : ℕ) where
   -- All rows hold edges present alone: those of a block do.
   pub present-part : RowsPresent N cuts → RowsPresent N (take n (drop i cuts))
   present-part inside c m =
-      inside c (subst (List·Memᴰ c) (take-append-drop i cuts) (Memᴰ·append-right (take i cuts) (subst (List·Memᴰ c) (take-append-drop n (drop i cuts)) (Memᴰ·append-left (drop n (drop i cuts)) m))))
+      let behind : List·Memᴰ c (drop i cuts) = subst (List·Memᴰ c) (take-append-drop n (drop i cuts)) (Memᴰ·append-left (drop n (drop i cuts)) m) in
+      inside c (subst (List·Memᴰ c) (take-append-drop i cuts) (Memᴰ·append-right (take i cuts) behind))
 
   -- The rows up to i and those of a block behind them do: the rows up to its end do.
   pub present-more : RowsPresent N (take i cuts) → RowsPresent N (take n (drop i cuts)) → RowsPresent N (take (i + n) cuts)

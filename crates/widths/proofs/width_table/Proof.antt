@@ -1,19 +1,14 @@
 -- `width_table` meets its contract. The loop's invariant: the rows passed hold edges present alone, and the counts are theirs.
 -- The measure is what is left of the length. Assumes nothing.
-use mathlib.Core.List.{List, map, _++_, List·Memᴰ, List·Memᴰ·not-nil}
+use mathlib.Core.List.{List, map, List·Memᴰ·not-nil}
 use mathlib.Core.Logic.{inl, inr}
 use mathlib.Core.Path.{_≡_, refl, sym, ap, _∙_}
 use Prim.Native.Nat.{ℕ, _+_, _-_, _^_, _≤_, _<_}
-use native.Mathlib.Decide.{ℕ-discrete, decLt}
-use native.Mathlib.Nat.{not-suc-le-zero}
 use native.Mathlib.Omega.{arith}
 use borrow.Author.Needs.{needs}
 use borrow.Author.Tests.{not-true, not-false}
 use lib.ListN.{length, length-map, take, drop}
 use lib.Seq.{length-take-le, take-length}
-use Rattle.sequences.proofs.Places.{mem-at, at-mem}
-use Rattle.bitset.specs.Members.{_⊆_, size}
-use Rattle.edge_set.specs.declared.EdgeSet.{EdgeSet}
 use Rattle.network.specs.declared.Network.{Network}
 use Rattle.network.specs.Record.{faultOf, present, Stored}
 use Rattle.network.specs.Rules.{RowsPresent}
@@ -22,7 +17,6 @@ use Rattle.widths.specs.Twins.{LowerTwins, Alone}
 use Rattle.widths.specs.Widths.{widthOf, widthTable}
 use Rattle.widths.proofs.Answers.{widths-refused, widths-given, widths-mean}
 use Rattle.widths.proofs.Leading.{alone-found}
-use Rattle.widths.proofs.Pairs.{width-lt}
 use Rattle.widths.proofs.RowBlocks.{together-within, places-put, block-length, block-end, present-part, present-more, table-more, alone-widths}
 use Rattle.widths.proofs.WidthTable.{table-tally, table-none, table-all, widths-lt}
 use Rattle.widths.proofs.width_table.Statement.{statement}
@@ -41,7 +35,7 @@ Inv-loop network cuts refusal lower alone counts₀ widths₀ i₀ counts widths
 abbrev μ-loop : tie.MeasureT-loop
 μ-loop network cuts refusal lower alone counts₀ widths₀ i₀ counts widths i = length cuts - i
 
--- The network and the rows, the place and the test of the record, seen from where a block begins.
+-- The record, the rows and the place, seen from where a block begins.
 abbrev start : tie.After-block Inv-loop μ-loop → tie.Start Inv-loop μ-loop
 start b = b .before .before .before .before .before .before .before .before .before .before
 
@@ -54,7 +48,7 @@ cuts b = start b .args .cuts .now
 abbrev place : tie.After-block Inv-loop μ-loop → ℕ
 place b = b .before .before .loop .i
 
--- The rows of the block, and how many they are.
+-- The rows of the block.
 abbrev rows : tie.After-block Inv-loop μ-loop → List ℕ
 rows b = take (b .block .result) (drop (place b) (cuts b))
 
@@ -88,13 +82,18 @@ empty-requires c κs = search needs
 leading-requires : tie.Need-leading-requires Inv-loop μ-loop
 leading-requires c κs = search needs
 
--- What is known of twins.
-lower-twins : (c : tie.After-leading Inv-loop μ-loop) → LowerTwins (c .before .before .before .before .before .before .before .args .network) (c .before .before .before .lower-twins .result)
+-- The record, and the table of lower twins, seen from where the edges are known that are alone.
+abbrev whose : tie.After-leading Inv-loop μ-loop → Network
+whose c = c .before .before .before .before .before .before .before .args .network
+
+abbrev table : tie.After-leading Inv-loop μ-loop → List ℕ
+table c = c .before .before .before .lower-twins .result
+
+lower-twins : (c : tie.After-leading Inv-loop μ-loop) → LowerTwins (whose c) (table c)
 lower-twins c = c .before .before .before .lower-twins .ensures
 
-alone : (c : tie.After-leading Inv-loop μ-loop)
-    → Alone (c .before .before .before .before .before .before .before .args .network) (c .before .before .before .lower-twins .result) (c .leading .result .0)
-alone c = alone-found (c .before .before .before .before .before .before .before .args .network) (c .before .before .before .lower-twins .result) _ _ (c .before .empty .ensures) (c .leading .ensures)
+alone : (c : tie.After-leading Inv-loop μ-loop) → Alone (whose c) (table c) (c .leading .result .0)
+alone c = alone-found (whose c) (table c) _ _ (c .before .empty .ensures) (c .leading .ensures)
 
 loop-holds : tie.Need-loop-holds Inv-loop μ-loop
 loop-holds c = record { within = omega arith; inside = λ r m. absurd (List·Memᴰ·not-nil m); counted = table-none _; full = refl }
@@ -107,11 +106,13 @@ ends b = let (left, most, some) = b .block .ensures in (omega (arith, b .before 
 places : (b : tie.After-block Inv-loop μ-loop) (widths : List ℕ) → length widths ≡ 64 → length (take (b .block .result) widths) ≡ b .block .result
 places b widths full = length-take-le (b .block .result) widths (rw full (ends b .1))
 
+given : (b : tie.After-block Inv-loop μ-loop) → b .block .result ≡ length (take (b .block .result) (b .before .before .loop .widths))
+given b = sym (places b _ (b .before .before .loop .inv .full))
+
 fit : (b : tie.After-block Inv-loop μ-loop)
     → length (take (b .block .result) (b .before .before .loop .widths)) ≡ length (take (place b + b .block .result - place b) (drop (place b) (cuts b)))
 fit b =
-    rw (block-end (place b) (b .block .result))
-    (places b (b .before .before .loop .widths) (b .before .before .loop .inv .full) ∙ sym (block-length (cuts b) (place b) (b .block .result) (ends b .0)))
+    rw (block-end (place b) (b .block .result)) (sym (given b) ∙ sym (block-length (cuts b) (place b) (b .block .result) (ends b .0)))
 
 -- The rows as the code takes them.
 same-rows : (b : tie.After-block Inv-loop μ-loop) → take (place b + b .block .result - place b) (drop (place b) (cuts b)) ≡ rows b
@@ -148,7 +149,7 @@ array-borrow-prefix-widths : tie.Need-array-borrow-prefix-widths Inv-loop μ-loo
 array-borrow-prefix-widths c = search needs
 
 slice-aggregate-sizes : tie.Need-slice-aggregate-sizes Inv-loop μ-loop
-slice-aggregate-sizes c = let b = c .before .before .before .before .before in sym (places b _ (b .before .before .loop .inv .full))
+slice-aggregate-sizes c = given (c .before .before .before .before .before)
 
 sizes-requires : tie.Need-sizes-requires Inv-loop μ-loop
 sizes-requires c κs = fit (c .before .before .before .before .before)
@@ -170,7 +171,7 @@ array-borrow-prefix-widths-2 : tie.Need-array-borrow-prefix-widths-2 Inv-loop μ
 array-borrow-prefix-widths-2 c = search needs
 
 slice-aggregate-leading-sizes : tie.Need-slice-aggregate-leading-sizes Inv-loop μ-loop
-slice-aggregate-leading-sizes c = let b = c .before .before .before .before .before .before .before .before in sym (places b _ (b .before .before .loop .inv .full))
+slice-aggregate-leading-sizes c = given (c .before .before .before .before .before .before .before .before)
 
 leading-sizes-requires : tie.Need-leading-sizes-requires Inv-loop μ-loop
 leading-sizes-requires c κs = fit (c .before .before .before .before .before .before .before .before)
@@ -191,7 +192,8 @@ found c =
     let room : b .block .result ≤ length (b .before .before .loop .widths) = rw (b .before .before .loop .inv .full) (ends b .1) in
     elim (c .if2 .came) [
       | inl k ↦
-          let (inside, same) = alone-widths (network b) (led .before .before .before .lower-twins .result) _ (lower-twins led) (alone led) (rows b) (together-within (rows b) _ _ together .0 (c .before .is-subset .ensures .holds (k .0 .taken))) in
+          let within = together-within (rows b) _ _ together .0 (c .before .is-subset .ensures .holds (k .0 .taken)) in
+          let (inside, same) = alone-widths (network b) (table led) _ (lower-twins led) (alone led) (rows b) within in
           let (first, whole) = places-put (widthOf (network b)) (rows b) _ _ (b .block .result) (rw (same-rows b) at (k .2 .ensures) ∙ same) size room in
           record { inside = inside; measured = rw (k .4) first; full = rw (k .4) (whole ∙ b .before .before .loop .inv .full) }
       | inr k ↦
@@ -212,10 +214,12 @@ count-requires c κs =
     let b = c .before .before .before .before .before .before in
     let l = b .before .before .loop in
     let here = found (c .before .before) in
-    let before = length-map (take (place b) (cuts b)) (widthOf (network b)) ∙ length-take-le (place b) (cuts b) (l .inv .within) in
-    let after = short (b .before .before .before .before .before .before .before .before .before) in (
+    let passed = take (place b) (cuts b) in
+    let before = length-map passed (widthOf (network b)) ∙ length-take-le (place b) (cuts b) (l .inv .within) in
+    let more = places b (c .before .before .if2 .widths) (here .full) in
+    let most = short (b .before .before .before .before .before .before .before .before .before) in (
       rw (here .measured) (widths-lt (network b) (rows b)),
-      (map (widthOf (network b)) (take (place b) (cuts b)), l .inv .counted ∙ table-tally (network b) (take (place b) (cuts b)), omega (arith, before, places b (c .before .before .if2 .widths) (here .full), ends b .0, after)),
+      (map (widthOf (network b)) passed, l .inv .counted ∙ table-tally (network b) passed, omega (arith, before, more, ends b .0, most)),
     )
 
 loop-less : tie.Need-loop-less Inv-loop μ-loop
@@ -229,7 +233,8 @@ loop-again c =
     let l = b .before .before .loop in
     let N = network b in
     let here = found (c .before .before .before) in
-    let counted = c .count .ensures (map (widthOf N) (take (place b) (cuts b))) (l .inv .counted ∙ table-tally N (take (place b) (cuts b))) in
+    let passed = take (place b) (cuts b) in
+    let counted = c .count .ensures (map (widthOf N) passed) (l .inv .counted ∙ table-tally N passed) in
     record {
       within = ends b .0;
       inside = present-more N (cuts b) (place b) (b .block .result) (l .inv .inside) (here .inside);

@@ -1,7 +1,7 @@
 -- `blocks::together` meets its contract. The invariant: the set holds the edges of the rows passed.
 -- The measure is what is left of the length. Assumes nothing.
 use mathlib.Core.List.{List}
-use mathlib.Core.Path.{_≡_, ap}
+use mathlib.Core.Path.{_≡_}
 use Prim.Native.Nat.{ℕ, _-_, _≤_}
 use native.Mathlib.Omega.{arith}
 use borrow.Author.Needs.{needs}

@@ -2,13 +2,10 @@
 -- The measure is the set of edges left. Assumes nothing.
 use mathlib.Core.Logic.{inl, inr}
 use mathlib.Core.Path.{_≡_}
-use Prim.Native.Nat.{ℕ}
-use native.Mathlib.Omega.{arith}
 use borrow.Author.Needs.{needs}
 use lib.ListN.{getD}
 use Rattle.bitset.proofs.Results.{in-without}
 use Rattle.bitset.proofs.Scans.{Less, less-lowest, less-lt, none-left, Sifted, sifted-first, sifted-stays, sifted-goes, sifted-last}
-use Rattle.bitset.proofs.Subsets.{⊆-refl}
 use Rattle.widths.proofs.twins.joining.Statement.{statement}
 use Rattle.widths.proofs.twins.joining.Tie as tie
 
