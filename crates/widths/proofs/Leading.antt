@@ -2,17 +2,18 @@
 -- Assumes nothing.
 --
 --   RowTwins edges pairs k t     the set t holds those of the edges below k that have the entry of k in the table of pairs
-use mathlib.Core.Bool.{true, false, true≢false, _&&_}
+use mathlib.Core.Bool.{Bool, true, false, true≢false, not, _&&_}
 use mathlib.Core.List.{List}
 use mathlib.Core.Logic.{inl, inr, _↔_}
 use mathlib.Core.Path.{_≡_, sym, _∙_}
 use Prim.Native.Nat.{ℕ, _<_, _^_}
 use native.Mathlib.Omega.{arith}
-use borrow.Author.Tests.{eq-eqb, eqb-true}
+use borrow.Author.Tests.{eq-eqb, eqb-true, not-true, not-false}
 use lib.Dec.{eqb, ltb, ltb→lt, lt→ltb}
 use lib.ListN.{length, getD, set}
 use lib.Seq.{getD-set-same, getD-set-other}
 use Rattle.sequences.proofs.Tests.{T-and}
+use Rattle.bitset.specs.Decides.{Decides}
 use Rattle.bitset.specs.Families.{Meets}
 use Rattle.bitset.specs.Members.{has, _∈_, _⊆_, size}
 use Rattle.bitset.proofs.Scans.{Less, Done, done-next}
@@ -26,17 +27,15 @@ use Rattle.widths.proofs.Pairs.{leads-width}
 
 -- ---- whether two sets meet
 
--- The common members are none exactly if the sets do not meet.
-module _ (s t both : ℕ) (common : (k : ℕ) → (k ∈ both) ↔ ((k ∈ s) × (k ∈ t))) where
-  pub meets-none : eqb both 0 ≡ true → Meets s t → ⊥
-  meets-none e (k, m) = not-zero k (rw (eqb-true both 0 e) at (common k .1 m))
+-- They do unless there are no common members.
+pub meets-test : (s t both : ℕ) → ((k : ℕ) → (k ∈ both) ↔ ((k ∈ s) × (k ∈ t))) → {none : Bool} → none ≡ eqb both 0 → Decides (not none) (Meets s t)
+meets-test s t both common {none} e = record { holds = λ h. some (sym e ∙ not-true none h); fails = λ h. apart (sym e ∙ not-false none h) }
+  where
+    some : eqb both 0 ≡ false → Meets s t
+    some f = elim (empty-or-member both) [ inl z ↦ absurd (true≢false (sym (eq-eqb both 0 z) ∙ f)) | inr m ↦ (m .0, common (m .0) .0 (m .1)) ]
 
-  pub meets-some : eqb both 0 ≡ false → (Meets s t → ⊥) → ⊥
-  meets-some e apart =
-      elim (empty-or-member both) [
-        | inl z ↦ true≢false (sym (eq-eqb both 0 z) ∙ e)
-        | inr m ↦ apart (m .0, common (m .0) .0 (m .1))
-      ]
+    apart : eqb both 0 ≡ true → Meets s t → ⊥
+    apart t (k, m) = not-zero k (rw (eqb-true both 0 t) at (common k .1 m))
 
 -- ---- the table
 

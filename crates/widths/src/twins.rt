@@ -7,6 +7,7 @@ ghost use mathlib.Core.Logic.{_↔_};
 ghost use mathlib.Core.Path.{_≡_};
 ghost use Prim.Native.Nat.{ℕ, _<_};
 ghost use lib.ListN.{getD};
+ghost use Rattle.bitset.specs.Decides.{Decides};
 ghost use Rattle.bitset.specs.Families.{Meets};
 ghost use Rattle.bitset.specs.Members.{_∈_};
 ghost use Rattle.network.specs.Record.{faultOf};
@@ -69,6 +70,15 @@ pub fn lower_twins(network: Network) -> [u64; 64]
     }
 }
 
+// Whether the edge k has a lower twin in the set.
+fn led(lower: &[u64; 64], k: u32, set: EdgeSet) -> bool
+    requires { ⌜ k < 64 ⌝ }
+    ensures { λ r. ⌜ Decides r (Meets (getD (now (lower .entry)) k 0) (set .0)) ⌝ }
+{
+    let twins = EdgeSet(lower[k as usize]);
+    !twins.intersection(set).is_empty()
+}
+
 // The edges of a set that have no lower twin in it. Those of `alone` have none anywhere and are not looked at.
 pub fn leading(lower: &[u64; 64], alone: EdgeSet, set: EdgeSet) -> EdgeSet
     ensures { λ r. ⌜ ((k : ℕ) → (k ∈ r .0) ↔ ((k ∈ set .0) × ((k ∈ alone .0 → ⊥) → Meets (getD (now (lower .entry)) k 0) (set .0) → ⊥))) ⌝ }
@@ -80,8 +90,7 @@ pub fn leading(lower: &[u64; 64], alone: EdgeSet, set: EdgeSet) -> EdgeSet
         if 64 <= k {
             return leads;
         }
-        let twins = EdgeSet(lower[k as usize]);
-        if !twins.intersection(set).is_empty() {
+        if led(lower, k, set) {
             leads = leads.without(k);
         }
         left = left.without_lowest();

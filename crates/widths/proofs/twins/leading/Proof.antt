@@ -1,14 +1,11 @@
 -- `twins::leading` meets its contract. The invariant: of the edges gone through those without a lower twin in the set stay.
 -- The measure is the set of edges left. Assumes nothing.
 use mathlib.Core.Logic.{inl, inr}
-use mathlib.Core.Path.{sym, _∙_}
 use borrow.Author.Needs.{needs}
-use borrow.Author.Tests.{not-true, not-false}
 use lib.ListN.{getD}
 use Rattle.bitset.specs.Families.{Meets}
-use Rattle.bitset.proofs.Results.{in-without, in-difference, in-intersection}
+use Rattle.bitset.proofs.Results.{in-without, in-difference}
 use Rattle.bitset.proofs.Scans.{Less, less-lowest, less-lt, none-left, Sifted, sifted-first, sifted-stays, sifted-goes, sifted-last}
-use Rattle.widths.proofs.Leading.{meets-some, meets-none}
 use Rattle.widths.proofs.twins.leading.Statement.{statement}
 use Rattle.widths.proofs.twins.leading.Tie as tie
 
@@ -39,20 +36,8 @@ returns c =
       λ p. held .1 (p .0, λ i. p .1 (off k .0 i .1)),
     )
 
-cast-t9 : tie.Need-cast-t9 Inv-loop μ-loop
-cast-t9 c = search needs
-
-mul-t10 : tie.Need-mul-t10 Inv-loop μ-loop
-mul-t10 c = search needs
-
-element-copy-out-t13 : tie.Need-element-copy-out-t13 Inv-loop μ-loop
-element-copy-out-t13 c = search needs
-
-intersection-requires : tie.Need-intersection-requires Inv-loop μ-loop
-intersection-requires c κs = search needs
-
-is-empty-requires : tie.Need-is-empty-requires Inv-loop μ-loop
-is-empty-requires c κs = search needs
+led-requires : tie.Need-led-requires Inv-loop μ-loop
+led-requires c κs = search needs
 
 without-requires : tie.Need-without-requires Inv-loop μ-loop
 without-requires c κs = search needs
@@ -62,7 +47,7 @@ without-lowest-requires c κs = search needs
 
 -- The lowest edge is found, seen from the end of its turn.
 abbrev found : tie.After-without-lowest Inv-loop μ-loop → tie.After-lowest Inv-loop μ-loop
-found c = c .before .before .before .before .before .before
+found c = c .before .before .before .before
 
 -- One edge less is left.
 less : (c : tie.After-without-lowest Inv-loop μ-loop)
@@ -77,17 +62,12 @@ loop-less c = less-lt _ _ _ (less c)
 loop-again : tie.Need-loop-again Inv-loop μ-loop
 loop-again c =
     let l = found c .before .loop in
-    let tested = c .before .before in
-    let common = in-intersection _ _ _ (tested .before .intersection .ensures) in
+    let asked = c .before .before .led .ensures in
     elim (c .before .if2 .came) [
       | inl k ↦
           rw (k .2)
-          (sifted-goes _ _ _ (l .left .0) _ _ (l .leads .0) _ (less c)
-          (meets-some _ _ _ common (sym (tested .is-empty .ensures) ∙ not-true _ (k .0 .taken))) (in-without _ _ _ (k .1 .ensures)) (l .inv))
-      | inr k ↦
-          rw (k .1)
-          (sifted-stays _ _ _ (l .left .0) _ _ (l .leads .0) (less c)
-          (meets-none _ _ _ common (sym (tested .is-empty .ensures) ∙ not-false _ (k .0 .left))) (l .inv))
+          (sifted-goes _ _ _ (l .left .0) _ _ (l .leads .0) _ (less c) (λ stays. stays (asked .holds (k .0 .taken))) (in-without _ _ _ (k .1 .ensures)) (l .inv))
+      | inr k ↦ rw (k .1) (sifted-stays _ _ _ (l .left .0) _ _ (l .leads .0) (less c) (asked .fails (k .0 .left)) (l .inv))
     ]
 
 pub leading-spec : {M : Type 1} → statement M
@@ -100,11 +80,7 @@ leading-spec =
     loop-holds
     lowest-requires
     returns
-    cast-t9
-    mul-t10
-    element-copy-out-t13
-    intersection-requires
-    is-empty-requires
+    led-requires
     without-requires
     without-lowest-requires
     loop-less
