@@ -281,8 +281,8 @@ pub extern "C" fn cutlist_widths(
     ensures { λ r. ⌜ Counted (assembled nodes source sink present (now (first .entry)) (now (second .entry)) (now (metres .entry))) (now (cuts .entry)) r (now (table .exit)) ⌝ }
     ensures means { λ r. ⌜ WidthsMean (assembled nodes source sink present (now (first .entry)) (now (second .entry)) (now (metres .entry))) (now (cuts .entry)) r (now (table .exit)) ⌝ }
 {
-    let cabled = assemble(nodes, source, sink, present, first, second, metres);
-    let counted = widths::width_table(cabled, cuts);
+    let to_count = assemble(nodes, source, sink, present, first, second, metres);
+    let counted = widths::width_table(to_count, cuts);
     let counts = counted.counts;
     *table = counts;
     counted.refusal
