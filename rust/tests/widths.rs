@@ -6,7 +6,6 @@ use cutlist_tests::brute::members;
 use cutlist_tests::halls;
 use cutlist_tests::lengths;
 use cutlist_tests::lists;
-use cutlist_tests::ordinary::BLOCK;
 use cutlist_tests::plans;
 use cutlist_tests::record::{Record, MOST_NODES, SLOTS};
 use cutlist_tests::reference::FAULTS;
@@ -462,44 +461,69 @@ fn long_lists() {
     }
 }
 
-/// Rows are looked at in blocks. Of rows whose cables are alone between their points one holds two cables
-/// between the same points, or the higher of them, and one an absent cable: at the borders of blocks, in
-/// lists that end before a border, at it and behind it.
+/// Rows are counted two at a time where no two cables of the plan join the same points, and one after
+/// the other where some do: a row of another width at each place of short lists, and a cable that is
+/// absent in each.
 #[test]
-fn borders_of_blocks() {
-    let hall = halls::bridge().with(5, 1, 0);
-    let (plain, double, higher, absent) = (0b001110, 0b100001, 0b101000, 1 << 6);
-    let borders = [0, BLOCK, 2 * BLOCK, 3 * BLOCK];
-    let near = |border: usize| border.saturating_sub(2)..border + 2;
-    for length in borders[1..].iter().flat_map(|&border| near(border)) {
-        let count = length as u64;
-        let places: Vec<usize> = borders.into_iter().flat_map(near).collect();
-        let places = || places.iter().copied().filter(|&place| place < length);
-        let mut rows = vec![plain; length];
-        assert_eq!(sys::widths(&hall, &rows), table(&[(3, count)]));
-        for place in places() {
-            for (row, width) in [(double, 1), (higher, 2)] {
-                rows[place] = row;
-                let expected = table(&[(width, 1), (3, count - 1)]);
-                assert_eq!(sys::widths(&hall, &rows), expected, "{place} of {length}");
-                for other in places() {
-                    let before = rows[other];
-                    rows[other] |= absent;
-                    assert_eq!(compare::widths(&hall, &rows), (14, NONE));
-                    rows[other] = before;
+fn each_place_of_short_lists() {
+    let (bridge, doubled) = (halls::bridge(), halls::bridge().with(5, 1, 0));
+    for (hall, plain, others) in [
+        (&bridge, (0b01110, 3), [(0b00001, 1), (0, 0), (0b11111, 5)]),
+        (
+            &doubled,
+            (0b001110, 3),
+            [(0b100001, 1), (0b101000, 2), (0, 0)],
+        ),
+        (
+            &doubled,
+            (0b100011, 2),
+            [(0b100000, 1), (0b111111, 5), (0, 0)],
+        ),
+    ] {
+        for length in 1..=9 {
+            let (mut rows, rest) = (vec![plain.0; length], length as u64 - 1);
+            for place in 0..length {
+                for (row, width) in others {
+                    rows[place] = row;
+                    let expected = table(&[(width, 1), (plain.1, rest)]);
+                    assert_eq!(sys::widths(hall, &rows), expected, "{place} of {length}");
+                    for other in 0..length {
+                        let before = rows[other];
+                        rows[other] |= 1 << 6;
+                        assert_eq!(compare::widths(hall, &rows), (14, NONE));
+                        rows[other] = before;
+                    }
                 }
+                rows[place] = plain.0;
             }
-            rows[place] = plain;
         }
     }
 }
 
-/// Lists of every length up to some blocks.
+/// One row of any width after one of any other or of the same, and a third.
+#[test]
+fn every_two_widths() {
+    let hall = all_different();
+    let low = |width: u32| u64::MAX.checked_shr(64 - width).unwrap_or(0);
+    for one in 0..=64 {
+        for next in 0..=64 {
+            let mut expected = NONE;
+            expected[one as usize] += 1;
+            expected[next as usize] += 1;
+            let rows = [low(one), low(next).rotate_left(19), low(next)];
+            assert_eq!(sys::widths(&hall, &rows[..2]), (0, expected));
+            expected[next as usize] += 1;
+            assert_eq!(sys::widths(&hall, &rows), (0, expected));
+        }
+    }
+}
+
+/// Lists of every length up to some hundred rows.
 #[test]
 fn every_length() {
     let mut rng = Rng::new(79);
     let mut tally = Tally::default();
-    for length in 1..=4 * BLOCK {
+    for length in 1..=256 {
         for record in [all_different(), plans::record(&mut rng)] {
             let rows = lists::rows(&mut rng, &record, length);
             tally.count(compare::widths(&record, &rows).0);

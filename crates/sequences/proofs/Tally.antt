@@ -1,16 +1,15 @@
 -- What a tally holds, one number after another: each count is how often its number stands in the list, and the counts sum to the length.
 -- Assumes nothing.
 use mathlib.Core.Path.{_≡_, refl, sym, ap, _∙_}
-use mathlib.Core.List.{List, [], _∷_, _++_, append-assoc, List·Memᴰ, List·Memᴰ·head, List·Memᴰ·tail}
+use mathlib.Core.List.{List, [], _∷_, _++_, List·Memᴰ, List·Memᴰ·head, List·Memᴰ·tail}
 use Prim.Native.Nat.{ℕ, zero, suc, _+_, _≤_, _<_, zero-le}
 use native.Mathlib.Decide.{ℕ-discrete, decLt}
 use native.Mathlib.Nat.{not-suc-le-zero, le-of-suc-le-suc}
-use native.Mathlib.Numerals.{add-one}
 use native.Mathlib.Omega.{arith}
 use borrow.Author.Tests.{eq-eqb, ne-eqb}
 use lib.Dec.{eqb, eqb·zero-suc, eqb·suc-zero, eqb·suc-suc}
-use lib.ListN.{length, getD, set, take, replicate, length-set, List·getD-eq-default}
-use lib.Seq.{ext-getD, getD-set-same, getD-set-other, take-suc}
+use lib.ListN.{length, getD, set, replicate, length-set, List·getD-eq-default}
+use lib.Seq.{ext-getD, getD-set-same, getD-set-other}
 use Rattle.sequences.specs.Counts.{sum, bit, countIf, tally}
 use Rattle.sequences.specs.Words.{tabulate}
 use Rattle.sequences.proofs.Counts.{count-nil, count-cons, count-append, count-le}
@@ -46,11 +45,12 @@ tally-none n = zeros n
     zeros (suc n) = ap (λ (l : List ℕ). 0 ∷ l) (zeros n)
 
 -- One number more raises its count by one.
-pub tally-next : (n : ℕ) (l : List ℕ) (v : ℕ) → v < n → set (tally n l) v (getD (tally n l) v 0 + 1) ≡ tally n (l ++ v ∷ [])
-tally-next n l v h =
-    ext-getD 0 raised after
+pub tally-next : (n : ℕ) (l : List ℕ) (v : ℕ) → v < n → {now : List ℕ} → now ≡ tally n l → set now v (getD now v 0 + 1) ≡ tally n (l ++ v ∷ [])
+tally-next n l v h e =
+    rw e
+    (ext-getD 0 raised after
     (length-set before v (getD before v 0 + 1) ∙ length-tally n l ∙ sym (length-tally n (l ++ v ∷ [])))
-    (λ w k. at w (rw (length-set before v (getD before v 0 + 1), length-tally n l) at k) (ℕ-discrete w v))
+    (λ w k. at w (rw (length-set before v (getD before v 0 + 1), length-tally n l) at k) (ℕ-discrete w v)))
   where
     before : List ℕ
     before = tally n l
@@ -69,12 +69,6 @@ tally-next n l v h =
     at : (w : ℕ) → w < n → Dec (w ≡ v) → getD raised w 0 ≡ getD after w 0
     at w k (yes e) = rw (counted w k, e, getD-set-same before v (getD before v 0 + 1) 0 (rw (length-tally n l) h), eq-eqb v v refl)
     at w k (no differ) = rw (counted w k, getD-set-other before v w (getD before v 0 + 1) 0 differ, ne-eqb w v differ) (omega arith)
-
--- So do the numbers of another list, one after the other.
-pub tally-more : (n : ℕ) (l m : List ℕ) (i : ℕ) {now : List ℕ} → now ≡ tally n (l ++ take i m) → i < length m → getD m i 0 < n
-    → set now (getD m i 0) (getD now (getD m i 0) 0 + 1) ≡ tally n (l ++ take (i + 1) m)
-tally-more n l m i e h k =
-    rw (e, add-one i, take-suc m i 0 h, ← append-assoc l (take i m) (getD m i 0 ∷ [])) (tally-next n (l ++ take i m) (getD m i 0) k)
 
 -- ---- their sum
 

@@ -111,5 +111,5 @@ module _ (N : Network) where
         → ((k : ℕ) → (k ∈ l) ↔ ((k ∈ c) × ((k ∈ alone → ⊥) → Meets (getD lower k 0) c → ⊥))) → size 64 l ≡ widthOf N c
     found-width c l within found = leads-width N c l (leads-found c l within found)
 
-    pub alone-width : (c : ℕ) → c ⊆ alone → (c ⊆ present N) × (size 64 c ≡ widthOf N c)
-    alone-width c within = (λ k m. single k .0 (within k m) .0, leads-width N c c (leads-alone c within))
+    pub alone-width : (c : ℕ) → c ⊆ alone → size 64 c ≡ widthOf N c
+    alone-width c within = leads-width N c c (leads-alone c within)

@@ -2,6 +2,6 @@
 pub mod Pairs
 pub mod Leading
 pub mod WidthTable
-pub mod RowBlocks
+pub mod Counting
 pub mod Answers
 pub mod Agree

@@ -6,8 +6,7 @@ use mathlib.Core.Logic.{∥∥₁-elim}
 use Prim.Native.Nat.{ℕ, _<_}
 use native.Mathlib.Nat.{ℕ-set}
 use lib.Dec.{eqb}
-use lib.ListN.{length, getD, take, replicate, length-map}
-use lib.Seq.{take-length}
+use lib.ListN.{length, getD, replicate, length-map}
 use Rattle.sequences.specs.Counts.{sum, countIf, tally}
 use Rattle.sequences.proofs.Counts.{count-map}
 use Rattle.sequences.proofs.Tally.{length-tally, tally-at, tally-none, tally-sum}
@@ -16,11 +15,6 @@ use Rattle.widths.specs.Widths.{widthOf, widthTable}
 use Rattle.widths.proofs.Pairs.{width-lt}
 
 module _ (N : Network) where
-  -- It counts the widths of the rows.
-  pub table-tally : (cuts : List ℕ) → widthTable N cuts ≡ tally 65 (map (widthOf N) cuts)
-  unfolding widthTable
-  table-tally cuts = refl
-
   -- There are 65 counts.
   pub length-table : (cuts : List ℕ) → length (widthTable N cuts) ≡ 65
   unfolding widthTable
@@ -35,10 +29,6 @@ module _ (N : Network) where
   pub table-none : replicate 65 0 ≡ widthTable N []
   unfolding widthTable
   table-none = tally-none 65
-
-  -- Past the last row the counts are those of all rows.
-  pub table-all : (cuts counts : List ℕ) (i : ℕ) → counts ≡ widthTable N (take i cuts) → i ≡ length cuts → counts ≡ widthTable N cuts
-  table-all cuts counts i e f = rw (e, f, take-length cuts)
 
   -- Each width has a count.
   pub widths-lt : (cuts : List ℕ) (w : ℕ) → List·Memᴰ w (map (widthOf N) cuts) → w < 65

@@ -1,3 +1,4 @@
 -- The definitions that the contracts of `widths` cite.
 pub mod Widths
 pub mod Twins
+pub mod Counting

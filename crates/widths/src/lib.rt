@@ -1,17 +1,13 @@
 // Widths: `width_table`, how many rows of a list there are of each width. It takes whatever it is given.
-mod blocks;
+mod rows;
 mod twins;
 
-use blocks::BLOCK;
-use blocks::block;
-use blocks::count;
-use blocks::leading_sizes;
-use blocks::sizes;
-use blocks::together;
 use edge_set::EdgeSet;
 use network::Network;
 use network::fault;
 use network::refusal::EDGE_NOT_PRESENT;
+use rows::by_leading;
+use rows::by_size;
 use twins::leading;
 use twins::lower_twins;
 ghost use mathlib.Core.Path.{_≡_};
@@ -23,8 +19,8 @@ pub struct Widths {
     pub counts: [u64; 65],
 }
 
-// The width table of a list: the record's first fault, then 14 for a row with an edge that is not present; else its rows by width. They are
-// looked at block by block: where no edge of a block has a lower twin, each row joins as many pairs as it has edges.
+// The width table of a list: the record's first fault, then 14 for a row with an edge that is not present; else its rows by width. Where no
+// edge present has a lower twin, each row joins as many pairs as it has edges.
 pub fn width_table(network: Network, cuts: &[u64]) -> Widths
     ensures { λ r. ⌜ r ≡ widthsOf network (now (cuts .entry)) ⌝ }
     ensures means { λ r. ⌜ WidthsMean network (now (cuts .entry)) (r .refusal) (r .counts) ⌝ }
@@ -38,27 +34,17 @@ pub fn width_table(network: Network, cuts: &[u64]) -> Widths
     }
     let lower = lower_twins(network);
     let alone = leading(&lower, EdgeSet::empty(), network.present);
-    let mut counts = [0u64; 65];
-    let mut widths = [0u64; BLOCK];
-    let mut i = 0;
-    while i < cuts.len() {
-        let n = block(cuts.len() - i);
-        let end = i + n;
-        let rows = &cuts[i..end];
-        let edges = together(rows);
-        if edges.is_subset(alone) {
-            sizes(rows, &mut widths[..n]);
-        } else {
-            if !edges.is_subset(network.present) {
-                return Widths {
-                    refusal: EDGE_NOT_PRESENT,
-                    counts: [0u64; 65],
-                };
-            }
-            leading_sizes(&lower, alone, rows, &mut widths[..n]);
-        }
-        count(&mut counts, &widths[..n]);
-        i = end;
+    let counted = if network.present.is_subset(alone) {
+        by_size(cuts)
+    } else {
+        by_leading(&lower, alone, cuts)
+    };
+    if !counted.edges.is_subset(network.present) {
+        return Widths {
+            refusal: EDGE_NOT_PRESENT,
+            counts: [0u64; 65],
+        };
     }
+    let counts = counted.counts;
     Widths { refusal: 0, counts }
 }
