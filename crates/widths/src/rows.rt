@@ -53,7 +53,7 @@ pub fn by_size(rows: &[u64]) -> RowCounts
     RowCounts { counts, edges }
 }
 
-// The rows by the number of their leading edges, which is their width if they hold edges present alone.
+// The rows by the number of their leading edges, which is their width if no row holds an edge that is not present.
 pub fn by_leading(lower: &[u64; 64], alone: EdgeSet, rows: &[u64]) -> RowCounts
     ensures { λ r. ⌜ ((N : Network) → LowerTwins N (now (lower .entry)) → Alone N (now (lower .entry)) (alone .0) → RowsPresent N (now (rows .entry))
         → r .counts ≡ widthTable N (now (rows .entry)))

@@ -67,7 +67,7 @@ network c = tested c .before .before .before .args .network
 abbrev cuts : tie.Joined2 → List ℕ
 cuts c = tested c .before .before .before .args .cuts .now
 
--- Rows that hold edges present alone are counted by width, and the edges of all rows are together.
+-- The rows are counted by width if none holds an edge that is not present, and the edges of all rows are together.
 record Counted (N : Network) (rows : List ℕ) (counted : RowCounts) : Type 0 where
   widths : RowsPresent N rows → counted .counts ≡ widthTable N rows
   together : Together rows (counted .edges .0)

@@ -1,5 +1,5 @@
--- `rows::by_leading` meets its contract. The invariant: the rows passed are counted by what was found for each, which is its width where
--- the rows hold edges present alone; and their edges are together. The measure is what is left of the length. Assumes nothing.
+-- `rows::by_leading` meets its contract. The invariant: the rows passed are counted by what was found for each, which is its width if no
+-- row holds an edge that is not present; and their edges are together. The measure is what is left of the length. Assumes nothing.
 use mathlib.Core.List.{List, [], _∷_, map, _++_}
 use mathlib.Core.Path.{_≡_, refl, ap, _∙_}
 use Prim.Native.Nat.{ℕ, _+_, _-_, _^_, _≤_, _<_}
