@@ -12,6 +12,9 @@ use crate::answer::Answer;
 /// How many bytes decide any plan: the list program reads no more.
 pub const DECIDING: usize = 521;
 
+/// The rows that it lends. A word that lists by itself lends as many.
+pub const MAX_ROWS: usize = 2048;
+
 /// Runs the list program on a plan's first bytes. It must read them, end well, say nothing on
 /// standard error and print a whole answer; the error says what it did instead.
 pub fn run(program: &Path, plan: &[u8]) -> Result<Answer, String> {

@@ -6,10 +6,8 @@ use std::io;
 use cutlist::{ListError, Plan};
 
 use crate::answer::{self, Answer};
+use crate::program::MAX_ROWS;
 use crate::status::Status;
-
-/// As many rows as the list program lends.
-pub const MAX_ROWS: usize = 2048;
 
 /// Lists the plans of the files. An error is one of standard output.
 pub fn run(files: &[OsString]) -> io::Result<Status> {

@@ -6,8 +6,8 @@ use std::io;
 use cutlist::{ListError, Plan};
 
 use crate::answer::{self, Answer};
+use crate::program::MAX_ROWS;
 use crate::status::Status;
-use crate::trimmed::MAX_ROWS;
 
 /// Counts the cuts of the plans of the files. An error is one of standard output.
 pub fn run(files: &[OsString]) -> io::Result<Status> {

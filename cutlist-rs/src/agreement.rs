@@ -31,7 +31,7 @@ const DECIDING_FED: &str = include_str!("../../command/src/program.rs");
 
 /// The most rows of the list program, and of the command where it lists by itself.
 const ROWS_PRINTED: &str = include_str!("../../crates/text/src/lib.rt");
-const ROWS_LISTED: &str = include_str!("../../command/src/trimmed.rs");
+const ROWS_LISTED: &str = include_str!("../../command/src/program.rs");
 
 /// Names by number, as the library has them: EDGE_NOT_PRESENT.
 type Names = BTreeMap<u8, String>;

@@ -899,26 +899,24 @@ fn replays() -> Vec<(&'static str, f64)> {
     slow
 }
 
-/// Rows in each list that is counted by width, and the calls of each.
+/// Rows in each list that is counted by width but the empty ones, and the calls of each.
 const ROWS: usize = 1 << 20;
 const COUNTS: usize = 51;
 
-/// The lists that are counted: a name, the plan and the rows, which are its list or any of its cables. Of
-/// the first plans no two cables join the same points, of the others some do, or all.
+/// The lists that are counted: a name, the plan and the rows, which are its list, the list again and
+/// again, any of its cables, or none. Of the first plans no two cables join the same points, of the
+/// others some do, or all.
 fn counted() -> Vec<(&'static str, Record, Vec<u64>)> {
     let mut rng = Rng::new(1);
     let mut any = |plan: &Record| -> Vec<u64> {
         let row = |_| rng.draw() & plan.present;
         (0..ROWS).map(row).collect()
     };
-    let listed = |plan: &Record| {
-        let mut lent = Lent::rows(ROWS);
-        assert_eq!(
-            Lister::Ordinary.list(plan, &mut lent),
-            (0, ROWS),
-            "{plan:?}"
-        );
-        lent.cuts
+    let listed = |plan: &Record, count: usize| {
+        let mut lent = Lent::rows(count);
+        let listed = Lister::Ordinary.list(plan, &mut lent);
+        assert_eq!(listed, (0, count), "{plan:?}");
+        lent.cuts.into_iter().cycle().take(ROWS).collect()
     };
     let hubs = halls::two_hubs(20);
     let beside = |plan: Record, (slot, edge): (usize, usize)| {
@@ -932,14 +930,21 @@ fn counted() -> Vec<(&'static str, Record, Vec<u64>)> {
     let line = halls::line(32, 2);
     let trunk = halls::two_points(64);
     vec![
-        ("two hubs, the list", hubs.clone(), listed(&hubs)),
+        ("two hubs, the list", hubs.clone(), listed(&hubs, ROWS)),
+        (
+            "circle of 64, its list again",
+            circle.clone(),
+            listed(&circle, 1_024),
+        ),
+        ("bridge, its list again", bridge.clone(), listed(&bridge, 4)),
         ("bridge, any rows", bridge.clone(), any(&bridge)),
         ("every pair of 11, any rows", eleven.clone(), any(&eleven)),
         ("circle of 64, any rows", circle.clone(), any(&circle)),
+        ("circle of 64, no rows", circle.clone(), vec![]),
         (
             "two hubs, 4 double, the list",
             some_double.clone(),
-            listed(&some_double),
+            listed(&some_double, ROWS),
         ),
         (
             "two hubs, 4 double, any rows",
@@ -952,12 +957,14 @@ fn counted() -> Vec<(&'static str, Record, Vec<u64>)> {
             trunk.clone(),
             any(&trunk),
         ),
+        ("two points, 64 cables, no rows", trunk.clone(), vec![]),
     ]
 }
 
 /// The table of width tables: how many pairs of points the cables join, the library's time and that of
 /// ordinary Rust, and, if there is such a build and no two cables join the same points, the time to count
-/// cables singly. Gives the lists on which the library takes too many times the last, and the ratio.
+/// cables singly. Gives the lists of a million rows on which the library takes too many times the last,
+/// and the ratio.
 fn width_tables(singly: Option<Singly>) -> Vec<(&'static str, f64)> {
     let names = &["library", "ordinary", "singly"][..2 + usize::from(singly.is_some())];
     println!(
@@ -1002,7 +1009,7 @@ fn width_tables(singly: Option<Singly>) -> Vec<(&'static str, f64)> {
         );
         let over = times.get(2).map(|&singly| ratio(times[0], singly));
         dear.extend(
-            over.filter(|&ratio| ratio > MOST_OVER_SINGLY)
+            over.filter(|&ratio| !rows.is_empty() && ratio > MOST_OVER_SINGLY)
                 .map(|ratio| (name, ratio)),
         );
     }

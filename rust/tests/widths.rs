@@ -447,8 +447,10 @@ fn long_lists() {
         for record in [all_different(), doubled.clone(), few_points.clone()] {
             let mut rows = lists::rows(&mut rng, &record, length);
             assert_eq!(compare::widths(&record, &rows).0, 0);
-            if let Some(rows) = lists::with_absent(&mut rng, &record, &rows, length - 1) {
-                assert_eq!(sys::widths(&record, &rows), (14, NONE));
+            for place in [0, rng.below(length), rng.below(length), length - 1] {
+                if let Some(rows) = lists::with_absent(&mut rng, &record, &rows, place) {
+                    assert_eq!(sys::widths(&record, &rows), (14, NONE), "{place}");
+                }
             }
             // All of one width.
             let count = length as u64;
@@ -457,6 +459,32 @@ fn long_lists() {
             assert_eq!(sys::widths(&record, &rows), table(&[(width, count)]));
             rows.fill(0);
             assert_eq!(sys::widths(&record, &rows), table(&[(0, count)]));
+        }
+    }
+}
+
+/// More than two million rows out of a few, each as often as it was drawn, and an absent cable in any
+/// of them.
+#[test]
+fn a_very_long_list() {
+    let mut rng = Rng::new(80);
+    let length = (1 << 21) + 3;
+    for hall in [halls::bridge(), halls::line(32, 2)] {
+        let few = lists::rows(&mut rng, &hall, 100);
+        let width_of = |&row: &u64| brute::pairs(&hall, row).len();
+        let few: Vec<(u64, usize)> = few.iter().map(|row| (*row, width_of(row))).collect();
+        let mut expected = NONE;
+        let draw = |_| {
+            let (row, width) = rng.pick(&few);
+            expected[width] += 1;
+            row
+        };
+        let mut rows: Vec<u64> = (0..length).map(draw).collect();
+        assert_eq!(sys::widths(&hall, &rows), (0, expected));
+        for place in (0..20).map(|_| rng.below(length)).chain([0, length - 1]) {
+            rows[place] |= 1 << 63;
+            assert_eq!(sys::widths(&hall, &rows), (14, NONE), "{place}");
+            rows[place] &= !(1 << 63);
         }
     }
 }

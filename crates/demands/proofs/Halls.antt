@@ -1,6 +1,6 @@
 -- The starred halls: the test of the table passes, and so all that the table says of each hall holds by the definitions.
 -- Assumes nothing.
-use mathlib.Core.Path.{_≡_, refl, ap₂}
+use mathlib.Core.Path.{_≡_, refl, sym, ap₂}
 use mathlib.Core.Bool.{Bool, true, false, Bool·beq}
 use mathlib.Core.List.{List, [], _∷_, List·Memᴰ}
 use mathlib.Core.Logic.{_↔_, Iff·rfl, Iff·trans}
@@ -14,12 +14,13 @@ use Rattle.sequences.proofs.Places.{mem-at}
 use Rattle.bitset.specs.Members.{has, insert, _∖_, subsets, membersFrom}
 use Rattle.sequences.proofs.Tests.{T-and, T-eqb}
 use Rattle.network.specs.declared.Network.{Network}
-use Rattle.network.specs.Record.{_when_, _then_, sizeFault, outsideFault, bare, withEdge}
+use Rattle.network.specs.Record.{_when_, _then_, sizeFault, outsideFault, rowsFault, bare, withEdge}
 use Rattle.format.specs.Format.{numberFault, sizeRefusal, terminalsRefusal, edgeRefusal, endRefusal, sizeStep, terminalsStep, edgeStep, lengthStep, lengthSize, ifTaken, edges, decodeUpTo, decodeOf}
 use Rattle.format.proofs.Reading.{accepts, decode-plan}
 use Rattle.sequences.specs.Counts.{countIf, tally}
 use Rattle.sequences.specs.Distinct.{once}
 use Rattle.widths.specs.Widths.{pairsOf, widthOf, widthTable}
+use Rattle.widths.proofs.Answers.{widths-given}
 use Rattle.graph.specs.Cuts.{only, Cut, Mincut}
 use Rattle.graph.specs.Reach.{addIf, across, roundOver, rounds, reachOf}
 use Rattle.graph.specs.CutTests.{severed, cutTest, allNeeded, mincutTest}
@@ -33,6 +34,7 @@ use Rattle.demands.specs.Halls.{JudgedSet, Hall, bridge, barCable, spur,
 use Rattle.text.specs.Text.{digits, decimal, spaced, numbers, lineUpTo, wordLine, rowLines, listText}
 use Rattle.report.specs.Report.{listReport, reportOf}
 use Rattle.listing.proofs.Meaning.{mincuts-complete}
+use Rattle.demands.proofs.Trunks.{mincuts-present}
 
 -- ---- the test is right
 
@@ -70,11 +72,14 @@ hall-right h t =
     let ok : decodeOf (h .plan) .refusal ≡ 0 = T-eqb (decodeOf (h .plan) .refusal) 0 .0 (passed 0 (omega arith)) in
     let plan = decode-plan (h .plan) N (accepts (h .plan) ok) in
     let S : Sound N = accepted-sound N (plan .stored) (plan .accepted) in
+    let listed : mincuts N ≡ h .cuts = T-same (mincuts N) (h .cuts) (passed 1 (omega arith)) in
     record {
       accepted = ok;
-      complete = rw (← T-same (mincuts N) (h .cuts) (passed 1 (omega arith)), ← T-same (sourceSides N) (h .sides) (passed 2 (omega arith))) (mincuts-complete N S);
+      complete = rw (← listed, ← T-same (sourceSides N) (h .sides) (passed 2 (omega arith))) (mincuts-complete N S);
       judged = λ j m. judged-right N S j (T-every (judgedTest N) (h .judged) .0 (passed 3 (omega arith)) j m);
-      widths = T-same (widthTable N (h .cuts)) (countsOf h) (passed 4 (omega arith));
+      widths =
+          let none : rowsFault N (h .cuts) ≡ 0 = rw (← listed) (mincuts-present N (S .bounded) (plan .accepted)) in
+          sym (widths-given N (h .cuts) 0 (countsOf h) (sym none) refl (sym (T-same (widthTable N (h .cuts)) (countsOf h) (passed 4 (omega arith)))));
       reached = λ v. rw (← T-eqb (reachOf N (2 ^ N .source)) (h .reached) .0 (passed 5 (omega arith))) (in-reach-single N (S .bounded) (N .source) v);
       nodes = λ v. rw (← T-eqb (relevantNodes N) (h .nodes) .0 (passed 6 (omega arith))) (in-relevantNodes N S v);
       edges = λ e. rw (← T-eqb (relevantEdges N) (h .edges) .0 (passed 7 (omega arith))) (in-relevantEdges N S e);

@@ -19,6 +19,7 @@ use Rattle.network.proofs.Ends.{same-ends}
 use Rattle.network.proofs.Refusals.{refused-none}
 use Rattle.network.proofs.Rules.{fault-rules}
 use Rattle.network.proofs.Sets.{rows-record, rows-none}
+use Rattle.graph.specs.Reach.{Bounded}
 use Rattle.widths.specs.Widths.{pairsOf, widthOf, widthTable, widthsOf}
 use Rattle.widths.proofs.Pairs.{in-pairs, pairs-distinct, width-le, leads-width, width-plain, width-pairs, width-again}
 use Rattle.widths.proofs.WidthTable.{table-none, table-sum, table-by}
@@ -54,7 +55,11 @@ whole : (N : Network) (cuts : List ℕ) → widthsOf N cuts .refusal ≡ 0 → s
 unfolding widthsOf
 whole N cuts ok = ap sum (refused-none (widthTable N cuts) (replicate 65 0) ok) ∙ table-sum N cuts
 
--- The rows that the list call left are the mincuts, whose edges are present.
+-- The mincuts hold edges present.
+pub mincuts-present : (N : Network) → Bounded N → faultOf N ≡ 0 → rowsFault N (mincuts N) ≡ 0
+mincuts-present N B ok = rows-none N (mincuts N) ok (λ c m. mincuts-lists N B .members c .0 m .cut .present)
+
+-- The rows that the list call left are these.
 listed : (N : Network) → Stored N → (cuts sides : List ℕ) → listedBy N cuts sides .refusal ≡ 0
     → let rows = take (listedBy N cuts sides .count) (cutRowsAfter N cuts sides) in
     (widthsOf N rows .refusal ≡ 0) × (sum (widthsOf N rows .counts) ≡ listedBy N cuts sides .count)
@@ -62,7 +67,7 @@ unfolding widthsOf
 listed N stored cuts sides none =
     let (S, left) = complete-call N stored cuts sides none in
     let ok : faultOf N ≡ 0 = refusal-none N cuts sides .0 (sym (answer-refusal N cuts sides) ∙ none) .0 in
-    let given : rowsFault N (mincuts N) ≡ 0 = rows-none N (mincuts N) ok (λ c m. mincuts-lists N (S .bounded) .members c .0 m .cut .present) in
+    let given = mincuts-present N (S .bounded) ok in
     rw (← left .0, ← left .1, take-at (mincuts N) (drop (length (mincuts N)) cuts) (length (mincuts N)) refl)
     (given, whole N (mincuts N) given)
 

@@ -36,7 +36,7 @@ use Rattle.sequences.specs.Words.{every}
 use Rattle.bitset.specs.Members.{_∈_}
 use Rattle.network.specs.declared.Network.{Network}
 use Rattle.format.specs.Format.{decodeOf}
-use Rattle.widths.specs.Widths.{widthTable}
+use Rattle.widths.specs.Widths.{widthTable, widthsOf}
 use Rattle.graph.specs.Paths.{Connected}
 use Rattle.graph.specs.Cuts.{Cut, Mincut, RelevantEdge, RelevantNode}
 use Rattle.graph.specs.Lists.{CompleteList}
@@ -225,7 +225,7 @@ pub record Established (h : Hall) : Type 0 where
   pub accepted : decodeOf (h .plan) .refusal ≡ 0
   pub complete : CompleteList (networkOf h) (length (h .cuts)) (h .cuts) (h .sides)
   pub judged : (j : JudgedSet) → List·Memᴰ j (h .judged) → (T (j .cut) ↔ Cut (networkOf h) (j .set)) × (T (j .mincut) ↔ Mincut (networkOf h) (j .set))
-  pub widths : widthTable (networkOf h) (h .cuts) ≡ countsOf h
+  pub widths : widthsOf (networkOf h) (h .cuts) ≡ record { refusal = 0; counts = countsOf h }
   pub reached : (v : ℕ) → (v ∈ h .reached) ↔ Connected (networkOf h) (networkOf h .source) v
   pub nodes : (v : ℕ) → (v ∈ h .nodes) ↔ RelevantNode (networkOf h) v
   pub edges : (e : ℕ) → (e ∈ h .edges) ↔ RelevantEdge (networkOf h) e

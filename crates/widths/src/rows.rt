@@ -14,7 +14,7 @@ ghost use Rattle.widths.specs.Twins.{LowerTwins, Alone};
 ghost use Rattle.widths.specs.Widths.{widthTable};
 
 // How many rows there are of each width from 0 to 64, and the edges of all rows together.
-pub struct RowCounts {
+pub(crate) struct RowCounts {
     pub counts: [u64; 65],
     pub edges: EdgeSet,
 }
@@ -31,7 +31,7 @@ fn raise_two(counts: &mut [u64; 65], one: usize, next: usize)
 }
 
 // The rows by the number of their edges.
-pub fn by_size(rows: &[u64]) -> RowCounts
+pub(crate) fn by_size(rows: &[u64]) -> RowCounts
     ensures { λ r. ⌜ (r .counts ≡ tally 65 (map (size 64) (now (rows .entry)))) × Together (now (rows .entry)) (r .edges .0) ⌝ }
 {
     let mut counts = [0u64; 65];
@@ -54,7 +54,7 @@ pub fn by_size(rows: &[u64]) -> RowCounts
 }
 
 // The rows by the number of their leading edges, which is their width if no row holds an edge that is not present.
-pub fn by_leading(lower: &[u64; 64], alone: EdgeSet, rows: &[u64]) -> RowCounts
+pub(crate) fn by_leading(lower: &[u64; 64], alone: EdgeSet, rows: &[u64]) -> RowCounts
     ensures { λ r. ⌜ ((N : Network) → LowerTwins N (now (lower .entry)) → Alone N (now (lower .entry)) (alone .0) → RowsPresent N (now (rows .entry))
         → r .counts ≡ widthTable N (now (rows .entry)))
         × Together (now (rows .entry)) (r .edges .0) ⌝ }

@@ -49,7 +49,7 @@ fn joining(pairs: &[NodeWord; 64], edges: EdgeSet, pair: NodeWord) -> EdgeSet
 }
 
 // For each edge present of an accepted network its lower twins.
-pub fn lower_twins(network: Network) -> [u64; 64]
+pub(crate) fn lower_twins(network: Network) -> [u64; 64]
     requires { ⌜ faultOf network ≡ 0 ⌝ }
     ensures { λ r. ⌜ LowerTwins network r ⌝ }
 {
@@ -80,7 +80,7 @@ fn led(lower: &[u64; 64], k: u32, set: EdgeSet) -> bool
 }
 
 // The edges of a set that have no lower twin in it. Those of `alone` have none anywhere and are not looked at.
-pub fn leading(lower: &[u64; 64], alone: EdgeSet, set: EdgeSet) -> EdgeSet
+pub(crate) fn leading(lower: &[u64; 64], alone: EdgeSet, set: EdgeSet) -> EdgeSet
     ensures { λ r. ⌜ ((k : ℕ) → (k ∈ r .0) ↔ ((k ∈ set .0) × ((k ∈ alone .0 → ⊥) → Meets (getD (now (lower .entry)) k 0) (set .0) → ⊥))) ⌝ }
 {
     let mut leads = set;
