@@ -1,19 +1,21 @@
 -- What the methods of the sets give, as equations of numbers.
 -- Assumes nothing.
-use mathlib.Core.Path.{_≡_, refl}
+use mathlib.Core.Path.{_≡_, refl, sym, _∙_}
 use mathlib.Core.Bool.{Bool, true, false, not, _&&_, _||_, and-true, or-false, true≢false}
-use mathlib.Core.Logic.{_⊎_, _↔_}
+use mathlib.Core.Logic.{_⊎_, inl, inr, _↔_}
 use Prim.Native.Nat.{ℕ, _-_, _%_, _^_, _≤_, _<_}
 use native.Mathlib.Nat.{mod-eq-of-lt}
 use native.Mathlib.Omega.{arith}
-use borrow.Author.Tests.{lt-ltb}
+use borrow.Author.Tests.{lt-ltb, eq-eqb, eqb-true, not-true, not-false}
 use lib.Bits.{bitAnd, bitOr}
 use lib.Dec.{eqb, ltb, ltb→lt, lt→ltb}
 use Rattle.bitset.specs.Members.{has, _∈_, insert, _∖_}
+use Rattle.bitset.specs.Decides.{Decides}
+use Rattle.bitset.specs.Families.{Meets}
 use Rattle.sequences.proofs.Tests.{T-or, T-and}
 use Rattle.bitset.proofs.Members.{same-members, has-zero, has-power, has-ones, has-mod, has-and, has-or, has-minus, has-insert, eqb-cases}
 use Rattle.bitset.proofs.Subsets.{and-absorb}
-use Rattle.bitset.proofs.Sets.{in-minus, in-drop}
+use Rattle.bitset.proofs.Sets.{in-minus, in-drop, not-zero, empty-or-member}
 
 -- The empty set is 0.
 pub empty-zero : (t : ℕ) → ((j : ℕ) → has t j ≡ false) → t ≡ 0
@@ -86,3 +88,13 @@ with-insert w s k t h added =
     here true false e = absurd (true≢false e)
     here false true e = refl
     here false false e = refl
+
+-- Two sets meet unless there are no common members.
+pub meets-test : (s t both : ℕ) → ((k : ℕ) → (k ∈ both) ↔ ((k ∈ s) × (k ∈ t))) → {none : Bool} → none ≡ eqb both 0 → Decides (not none) (Meets s t)
+meets-test s t both common {none} e = record { holds = λ h. some (sym e ∙ not-true none h); fails = λ h. apart (sym e ∙ not-false none h) }
+  where
+    some : eqb both 0 ≡ false → Meets s t
+    some f = elim (empty-or-member both) [ inl z ↦ absurd (true≢false (sym (eq-eqb both 0 z) ∙ f)) | inr m ↦ (m .0, common (m .0) .0 (m .1)) ]
+
+    apart : eqb both 0 ≡ true → Meets s t → ⊥
+    apart t (k, m) = not-zero k (rw (eqb-true both 0 t) at (common k .1 m))

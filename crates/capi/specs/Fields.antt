@@ -9,7 +9,7 @@
 --   Played N log lent r n after     playing the log back for N into bytes that held `lent` gives the refusal r and the count n, and leaves
 --                        `after` in them
 --   Total N c r m        adding up the metres of the set c in N gives the refusal r and the total m
---   Counted N cuts r table   counting the rows `cuts` by width in N gives the refusal r and the table
+--   Tabled N cuts r table    counting the rows `cuts` by width in N gives the refusal r and the table
 --
 -- Of the two calls that list these are `Listing` (listing, List) and `TrimmedListing` (listing, Trimmed).
 use mathlib.Core.List.{List}
@@ -59,6 +59,6 @@ pub record Total (N : Network) (c r m : ℕ) : Type 0 where
   pub refusal : r ≡ totalOf N c .refusal
   pub metres : m ≡ totalOf N c .metres
 
-pub record Counted (N : Network) (cuts : List ℕ) (r : ℕ) (table : List ℕ) : Type 0 where
+pub record Tabled (N : Network) (cuts : List ℕ) (r : ℕ) (table : List ℕ) : Type 0 where
   pub refusal : r ≡ widthsOf N cuts .refusal
   pub counts : table ≡ widthsOf N cuts .counts

@@ -15,7 +15,7 @@ ghost use Rattle.lengths.specs.Lengths.{TotalMeans};
 ghost use Rattle.listing.specs.List.{Listing, ListMeans};
 ghost use Rattle.listing.specs.Trimmed.{TrimmedListing, TrimmedMeans};
 ghost use Rattle.replay.specs.Replay.{ReplayMeans};
-ghost use Rattle.capi.specs.Fields.{Read, Written, Found, Judged, JudgedMeans, Played, Total, Counted};
+ghost use Rattle.capi.specs.Fields.{Read, Written, Found, Judged, JudgedMeans, Played, Total, Tabled};
 
 // Reads a plan. Gives the refusal's number, 0 if there is none, and fills in the record, all zero on refusal.
 #[no_mangle]
@@ -264,8 +264,8 @@ pub extern "C" fn cutlist_replay(
     replayed.refusal
 }
 
-// Counts the rows of a list by width, the number of pairs of points that a row's cables join. Gives the refusal's number, 0 if there is
-// none, and fills in the table, how many rows have width 0, 1 .. 64, all 0 on refusal.
+// Counts the rows of a list by width, the number of different pairs of points that a row's cables join. Gives the refusal's number, 0 if
+// there is none, and fills in the table, how many rows have width 0, 1 .. 64, all 0 on refusal.
 #[no_mangle]
 pub extern "C" fn cutlist_widths(
     nodes: u8,
@@ -278,7 +278,7 @@ pub extern "C" fn cutlist_widths(
     cuts: &[u64],
     table: &mut [u64; 65],
 ) -> u8
-    ensures { λ r. ⌜ Counted (assembled nodes source sink present (now (first .entry)) (now (second .entry)) (now (metres .entry))) (now (cuts .entry)) r (now (table .exit)) ⌝ }
+    ensures { λ r. ⌜ Tabled (assembled nodes source sink present (now (first .entry)) (now (second .entry)) (now (metres .entry))) (now (cuts .entry)) r (now (table .exit)) ⌝ }
     ensures means { λ r. ⌜ WidthsMean (assembled nodes source sink present (now (first .entry)) (now (second .entry)) (now (metres .entry))) (now (cuts .entry)) r (now (table .exit)) ⌝ }
 {
     let to_count = assemble(nodes, source, sink, present, first, second, metres);

@@ -58,7 +58,7 @@ module _ (N : Network) (b : Bool) {P : Type 0} (says : T b ↔ P) where
 
 module _ (N : Network) (c : ℕ) where
   -- The test asks whether the set lies inside the edges present.
-  pub all-present : T (allPresent N c) ↔ (c ⊆ present N)
+  all-present : T (allPresent N c) ↔ (c ⊆ present N)
   all-present = (
     λ t. subset-and c (present N) .1 (T-eqb (bitAnd c (present N)) c .0 t),
     λ within. T-eqb (bitAnd c (present N)) c .1 (subset-and c (present N) .0 within),

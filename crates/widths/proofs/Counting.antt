@@ -17,7 +17,7 @@ use Rattle.bitset.proofs.Size.{size-le}
 use Rattle.network.specs.declared.Network.{Network}
 use Rattle.network.specs.Record.{present}
 use Rattle.network.specs.Rules.{RowsPresent}
-use Rattle.widths.specs.Counting.{Together, raised}
+use Rattle.widths.specs.Counting.{EdgesOf, raised}
 use Rattle.widths.specs.Twins.{LowerTwins, Alone}
 use Rattle.widths.specs.Widths.{widthOf, widthTable}
 use Rattle.widths.proofs.Leading.{alone-width}
@@ -30,13 +30,13 @@ row-next rows i h = ap (λ n. take n rows) (add-one i) ∙ take-suc rows i 0 h
 -- ---- edges together
 
 -- Of no rows there are none.
-pub together-none : (edges : ℕ) → ((k : ℕ) → has edges k ≡ false) → Together [] edges
-together-none edges none k = (λ m. absurd (rw (none k) at m), λ (c, i, m). absurd (List·Memᴰ·not-nil i))
+pub edgesOf-none : (edges : ℕ) → ((k : ℕ) → has edges k ≡ false) → EdgesOf [] edges
+edgesOf-none edges none k = (λ m. absurd (rw (none k) at m), λ (c, i, m). absurd (List·Memᴰ·not-nil i))
 
 -- The edges of one row more.
-pub together-next : (rows : List ℕ) (i edges more : ℕ) → i < length rows → Together (take i rows) edges
-    → ((k : ℕ) → (k ∈ more) ↔ ((k ∈ edges) ⊎ (k ∈ getD rows i 0))) → Together (take (i + 1) rows) more
-together-next rows i edges more h t adds k = rw (row-next rows i h) (
+pub edgesOf-next : (rows : List ℕ) (i edges more : ℕ) → i < length rows → EdgesOf (take i rows) edges
+    → ((k : ℕ) → (k ∈ more) ↔ ((k ∈ edges) ⊎ (k ∈ getD rows i 0))) → EdgesOf (take (i + 1) rows) more
+edgesOf-next rows i edges more h t adds k = rw (row-next rows i h) (
   λ m. elim (adds k .0 m) [
     | inl q ↦ let (c, n, e) = t k .0 q in (c, Memᴰ·append-left (getD rows i 0 ∷ []) n, e)
     | inr q ↦ (getD rows i 0, Memᴰ·append-right (take i rows) (List·Memᴰ·head refl), q)
@@ -48,8 +48,8 @@ together-next rows i edges more h t adds k = rw (row-next rows i h) (
 )
 
 -- They lie inside a set exactly if each row does.
-pub together-within : (rows : List ℕ) (edges s : ℕ) → Together rows edges → (edges ⊆ s) ↔ ((c : ℕ) → List·Memᴰ c rows → c ⊆ s)
-together-within rows edges s t = (
+pub edgesOf-within : (rows : List ℕ) (edges s : ℕ) → EdgesOf rows edges → (edges ⊆ s) ↔ ((c : ℕ) → List·Memᴰ c rows → c ⊆ s)
+edgesOf-within rows edges s t = (
   λ within c m k q. within k (t k .1 (c, m, q)),
   λ each k m. let (c, i, q) = t k .0 m in each c i k q,
 )
@@ -82,7 +82,7 @@ size-lt s e = omega (arith, size-le 64 s)
 pub count-lt : (counts l : List ℕ) (w more : ℕ) → counts ≡ tally 65 l → length l + more < 2 ^ 64 → getD counts w 0 + more < 2 ^ 64
 count-lt counts l w more t room = let most : getD counts w 0 ≤ length l = rw t (tally-le 65 l w) in omega (arith, most)
 
--- ---- the rows by a number of each
+-- ---- rows counted by a number that each has
 
 -- The numbers of the rows passed, and that of one row more.
 pub map-next : (f : ℕ → ℕ) (rows : List ℕ) (i : ℕ) → i < length rows → {l : List ℕ} {v : ℕ} → l ≡ map f (take i rows) → v ≡ f (getD rows i 0)

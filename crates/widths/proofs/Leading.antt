@@ -2,40 +2,26 @@
 -- Assumes nothing.
 --
 --   RowTwins edges pairs k t     the set t holds those of the edges below k that have the entry of k in the table of pairs
-use mathlib.Core.Bool.{Bool, true, false, true≢false, not, _&&_}
+use mathlib.Core.Bool.{false, _&&_}
 use mathlib.Core.List.{List}
-use mathlib.Core.Logic.{inl, inr, _↔_}
+use mathlib.Core.Logic.{_↔_}
 use mathlib.Core.Path.{_≡_, sym, _∙_}
 use Prim.Native.Nat.{ℕ, _<_, _^_}
 use native.Mathlib.Omega.{arith}
-use borrow.Author.Tests.{eq-eqb, eqb-true, not-true, not-false}
-use lib.Dec.{eqb, ltb, ltb→lt, lt→ltb}
+use lib.Dec.{ltb, ltb→lt, lt→ltb}
 use lib.ListN.{length, getD, set}
 use lib.Seq.{getD-set-same, getD-set-other}
 use Rattle.sequences.proofs.Tests.{T-and}
-use Rattle.bitset.specs.Decides.{Decides}
 use Rattle.bitset.specs.Families.{Meets}
 use Rattle.bitset.specs.Members.{has, _∈_, _⊆_, size}
 use Rattle.bitset.proofs.Scans.{Less, Done, done-next}
-use Rattle.bitset.proofs.Sets.{not-zero, empty-or-member, member-lt}
+use Rattle.bitset.proofs.Sets.{member-lt}
 use Rattle.network.specs.declared.Network.{Network}
 use Rattle.network.specs.Record.{present}
 use Rattle.network.specs.Ends.{endsOf}
 use Rattle.widths.specs.Twins.{Leading, LowerTwins, Alone}
 use Rattle.widths.specs.Widths.{widthOf}
 use Rattle.widths.proofs.Pairs.{leads-width}
-
--- ---- whether two sets meet
-
--- They do unless there are no common members.
-pub meets-test : (s t both : ℕ) → ((k : ℕ) → (k ∈ both) ↔ ((k ∈ s) × (k ∈ t))) → {none : Bool} → none ≡ eqb both 0 → Decides (not none) (Meets s t)
-meets-test s t both common {none} e = record { holds = λ h. some (sym e ∙ not-true none h); fails = λ h. apart (sym e ∙ not-false none h) }
-  where
-    some : eqb both 0 ≡ false → Meets s t
-    some f = elim (empty-or-member both) [ inl z ↦ absurd (true≢false (sym (eq-eqb both 0 z) ∙ f)) | inr m ↦ (m .0, common (m .0) .0 (m .1)) ]
-
-    apart : eqb both 0 ≡ true → Meets s t → ⊥
-    apart t (k, m) = not-zero k (rw (eqb-true both 0 t) at (common k .1 m))
 
 -- ---- the table
 
@@ -90,7 +76,7 @@ module _ (N : Network) where
 
   module _ (lower : List ℕ) (alone : ℕ) (twins : LowerTwins N lower) (single : Alone N lower alone) where
     -- A member of a row of edges present leads exactly if it is alone in the network or the row has no lower twin of it.
-    pub leads-found : (c l : ℕ) → c ⊆ present N
+    leads-found : (c l : ℕ) → c ⊆ present N
         → ((k : ℕ) → (k ∈ l) ↔ ((k ∈ c) × ((k ∈ alone → ⊥) → Meets (getD lower k 0) c → ⊥))) → (k : ℕ) → (k ∈ l) ↔ Leading N c k
     leads-found c l within found k = (
       λ m. let (i, off) = found k .0 m in (
@@ -103,7 +89,7 @@ module _ (N : Network) where
     )
 
     -- In a row of edges that are alone all lead.
-    pub leads-alone : (c : ℕ) → c ⊆ alone → (k : ℕ) → (k ∈ c) ↔ Leading N c k
+    leads-alone : (c : ℕ) → c ⊆ alone → (k : ℕ) → (k ∈ c) ↔ Leading N c k
     leads-alone c within = leads-found c c (λ k m. single k .0 (within k m) .0) (λ k. (λ m. (m, λ n. absurd (n (within k m))), λ p. p .0))
 
     -- So each way the code finds them their number is the width.

@@ -1,6 +1,6 @@
 -- What the width table holds: each count is the number of rows of its width, and the counts sum to the number of rows.
 -- Assumes nothing.
-use mathlib.Core.Path.{_≡_, refl, sym, ap, _∙_}
+use mathlib.Core.Path.{_≡_, sym, ap, _∙_}
 use mathlib.Core.List.{List, [], map, map-congr-left, List·Memᴰ, Memᴰ·of-map}
 use mathlib.Core.Logic.{∥∥₁-elim}
 use Prim.Native.Nat.{ℕ, _<_}
@@ -31,7 +31,7 @@ module _ (N : Network) where
   table-none = tally-none 65
 
   -- Each width has a count.
-  pub widths-lt : (cuts : List ℕ) (w : ℕ) → List·Memᴰ w (map (widthOf N) cuts) → w < 65
+  widths-lt : (cuts : List ℕ) (w : ℕ) → List·Memᴰ w (map (widthOf N) cuts) → w < 65
   widths-lt cuts w m = let (c, i, e) = Memᴰ·of-map (widthOf N) cuts m in width-lt N c (sym e)
 
   -- The counts sum to the number of rows.

@@ -1,7 +1,7 @@
 -- Twins, edges that join the same pair of nodes (the paper's trunk).
 -- Working.
 --
---   Leading N c k      k is the lowest edge of the set c that joins its pair
+--   Leading N c k        k is the lowest edge of the set c that joins its pair
 --   LowerTwins N lower   row k of the table holds exactly the lower twins of the edge k, of every edge present
 --   Alone N lower alone  the set `alone` holds the edges present that have no lower twin in such a table
 use mathlib.Core.List.{List}

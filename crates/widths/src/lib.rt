@@ -27,10 +27,8 @@ pub fn width_table(network: Network, cuts: &[u64]) -> Widths
 {
     let refusal = fault(network);
     if refusal != 0 {
-        return Widths {
-            refusal,
-            counts: [0u64; 65],
-        };
+        let counts = [0u64; 65];
+        return Widths { refusal, counts };
     }
     let lower = lower_twins(network);
     let alone = leading(&lower, EdgeSet::empty(), network.present);
@@ -39,12 +37,12 @@ pub fn width_table(network: Network, cuts: &[u64]) -> Widths
     } else {
         by_leading(&lower, alone, cuts)
     };
+    let counts = counted.counts;
     if !counted.edges.is_subset(network.present) {
         return Widths {
             refusal: EDGE_NOT_PRESENT,
             counts: [0u64; 65],
         };
     }
-    let counts = counted.counts;
     Widths { refusal: 0, counts }
 }

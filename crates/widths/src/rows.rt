@@ -9,9 +9,12 @@ ghost use lib.ListN.{getD};
 ghost use Rattle.sequences.specs.Counts.{tally};
 ghost use Rattle.bitset.specs.Members.{size};
 ghost use Rattle.network.specs.Rules.{RowsPresent};
-ghost use Rattle.widths.specs.Counting.{Together, raised};
+ghost use Rattle.widths.specs.Counting.{EdgesOf, raised};
 ghost use Rattle.widths.specs.Twins.{LowerTwins, Alone};
 ghost use Rattle.widths.specs.Widths.{widthTable};
+
+// No row of any width.
+const NONE: [u64; 65] = [0; 65];
 
 // How many rows there are of each width from 0 to 64, and the edges of all rows together.
 pub(crate) struct RowCounts {
@@ -32,9 +35,9 @@ fn raise_two(counts: &mut [u64; 65], one: usize, next: usize)
 
 // The rows by the number of their edges.
 pub(crate) fn by_size(rows: &[u64]) -> RowCounts
-    ensures { λ r. ⌜ (r .counts ≡ tally 65 (map (size 64) (now (rows .entry)))) × Together (now (rows .entry)) (r .edges .0) ⌝ }
+    ensures { λ r. ⌜ (r .counts ≡ tally 65 (map (size 64) (now (rows .entry)))) × EdgesOf (now (rows .entry)) (r .edges .0) ⌝ }
 {
-    let mut counts = [0u64; 65];
+    let mut counts = NONE;
     let mut edges = EdgeSet::empty();
     let mut i = 0;
     while 1 < rows.len() - i {
@@ -57,9 +60,9 @@ pub(crate) fn by_size(rows: &[u64]) -> RowCounts
 pub(crate) fn by_leading(lower: &[u64; 64], alone: EdgeSet, rows: &[u64]) -> RowCounts
     ensures { λ r. ⌜ ((N : Network) → LowerTwins N (now (lower .entry)) → Alone N (now (lower .entry)) (alone .0) → RowsPresent N (now (rows .entry))
         → r .counts ≡ widthTable N (now (rows .entry)))
-        × Together (now (rows .entry)) (r .edges .0) ⌝ }
+        × EdgesOf (now (rows .entry)) (r .edges .0) ⌝ }
 {
-    let mut counts = [0u64; 65];
+    let mut counts = NONE;
     let mut edges = EdgeSet::empty();
     let mut i = 0;
     while i < rows.len() {

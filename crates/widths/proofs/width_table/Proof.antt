@@ -12,12 +12,12 @@ use Rattle.network.specs.Record.{faultOf, present, Stored}
 use Rattle.network.specs.Rules.{RowsPresent}
 use Rattle.network.proofs.Sets.{rows-record, rows-absent, rows-none}
 use Rattle.widths.specs.declared.rows.RowCounts.{RowCounts}
-use Rattle.widths.specs.Counting.{Together}
-use Rattle.widths.specs.Twins.{LowerTwins, Alone}
+use Rattle.widths.specs.Counting.{EdgesOf}
+use Rattle.widths.specs.Twins.{Alone}
 use Rattle.widths.specs.Widths.{widthTable}
 use Rattle.widths.proofs.Answers.{widths-refused, widths-given, widths-mean}
 use Rattle.widths.proofs.Leading.{alone-found}
-use Rattle.widths.proofs.Counting.{together-within, table-plain}
+use Rattle.widths.proofs.Counting.{edgesOf-within, table-plain}
 use Rattle.widths.proofs.width_table.Statement.{statement}
 use Rattle.widths.proofs.width_table.Tie as tie
 
@@ -67,23 +67,23 @@ network c = tested c .before .before .before .args .network
 abbrev cuts : tie.Joined2 → List ℕ
 cuts c = tested c .before .before .before .args .cuts .now
 
--- The rows are counted by width if none holds an edge that is not present, and the edges of all rows are together.
-record Counted (N : Network) (rows : List ℕ) (counted : RowCounts) : Type 0 where
+-- The rows are counted by width if none holds an edge that is not present, and the edges of all rows are gathered.
+record ByWidth (N : Network) (rows : List ℕ) (counted : RowCounts) : Type 0 where
   widths : RowsPresent N rows → counted .counts ≡ widthTable N rows
-  together : Together rows (counted .edges .0)
+  gathered : EdgesOf rows (counted .edges .0)
 
-counted : (c : tie.Joined2) → Counted (network c) (cuts c) (c .if2 .counted)
+counted : (c : tie.Joined2) → ByWidth (network c) (cuts c) (c .if2 .counted)
 counted c =
     let N = network c in
     let lower = c .before .before .before .before .before .lower-twins in
     let found = c .before .before .leading in
     let alone : Alone N (lower .result) (found .result .0) = alone-found N (lower .result) _ _ (c .before .before .before .empty .ensures) (found .ensures) in
     elim (c .if2 .came) [
-      | inl k ↦ subst (Counted N (cuts c)) (sym (k .2)) (record {
+      | inl k ↦ subst (ByWidth N (cuts c)) (sym (k .2)) (record {
         widths = λ inside. k .1 .ensures .0 ∙ table-plain N (lower .result) _ (lower .ensures) alone (c .before .is-subset .ensures .holds (k .0 .taken)) (cuts c) inside;
-        together = k .1 .ensures .1;
+        gathered = k .1 .ensures .1;
       })
-      | inr k ↦ subst (Counted N (cuts c)) (sym (k .3)) (record { widths = k .2 .ensures .0 N (lower .ensures) alone; together = k .2 .ensures .1 })
+      | inr k ↦ subst (ByWidth N (cuts c)) (sym (k .3)) (record { widths = k .2 .ensures .0 N (lower .ensures) alone; gathered = k .2 .ensures .1 })
     ]
 
 is-subset-requires-2 : tie.Need-is-subset-requires-2
@@ -91,11 +91,11 @@ is-subset-requires-2 c κs = search needs
 
 returns-2 : tie.Need-returns-2
 returns-2 c =
-    let joined = c .before .before in
+    let joined = c .before .before .before in
     let N = network joined in
     let rows = cuts joined in
     let out = c .before .is-subset2 .ensures .fails (not-true _ (c .if3 .taken)) in
-    let absent = rows-absent N rows (accepted (tested joined)) (λ inside. out (together-within rows _ (present N) (counted joined .together) .1 inside)) in
+    let absent = rows-absent N rows (accepted (tested joined)) (λ inside. out (edgesOf-within rows _ (present N) (counted joined .gathered) .1 inside)) in
     widths-mean N rows (stored (tested joined .before .before .before)) (widths-refused N rows 14 (sym absent) (λ e. omega arith))
 
 returns-3 : tie.Need-returns-3
@@ -103,8 +103,8 @@ returns-3 c =
     let joined = c .before .before .before in
     let N = network joined in
     let rows = cuts joined in
-    let within = c .before .before .is-subset2 .ensures .holds (not-false _ (c .before .if3 .left)) in
-    let inside = together-within rows _ (present N) (counted joined .together) .0 within in
+    let within = c .before .is-subset2 .ensures .holds (not-false _ (c .if3 .left)) in
+    let inside = edgesOf-within rows _ (present N) (counted joined .gathered) .0 within in
     widths-mean N rows (stored (tested joined .before .before .before))
     (widths-given N rows 0 _ (sym (rows-none N rows (accepted (tested joined)) inside)) refl (counted joined .widths inside))
 

@@ -1,5 +1,5 @@
 -- `rows::by_leading` meets its contract. The invariant: the rows passed are counted by what was found for each, which is its width if no
--- row holds an edge that is not present; and their edges are together. The measure is what is left of the length. Assumes nothing.
+-- row holds an edge that is not present; and their edges are gathered. The measure is what is left of the length. Assumes nothing.
 use mathlib.Core.List.{List, [], _∷_, map, _++_}
 use mathlib.Core.Path.{_≡_, refl, ap, _∙_}
 use Prim.Native.Nat.{ℕ, _+_, _-_, _^_, _≤_, _<_}
@@ -13,11 +13,11 @@ use Rattle.sequences.proofs.Tally.{tally-none, tally-next}
 use Rattle.bitset.proofs.Results.{in-union}
 use Rattle.network.specs.declared.Network.{Network}
 use Rattle.network.specs.Rules.{RowsPresent}
-use Rattle.widths.specs.Counting.{Together}
+use Rattle.widths.specs.Counting.{EdgesOf}
 use Rattle.widths.specs.Twins.{LowerTwins, Alone}
 use Rattle.widths.specs.Widths.{widthOf}
 use Rattle.widths.proofs.Leading.{found-width}
-use Rattle.widths.proofs.Counting.{together-none, together-next, size-lt, count-lt, map-next, table-of}
+use Rattle.widths.proofs.Counting.{edgesOf-none, edgesOf-next, size-lt, count-lt, map-next, table-of}
 use Rattle.widths.proofs.rows.by_leading.Statement.{statement}
 use Rattle.widths.proofs.rows.by_leading.Tie as tie
 
@@ -28,7 +28,7 @@ record Turn (lower : List ℕ) (alone : ℕ) (rows counts : List ℕ) (edges i :
   many : length found ≡ i
   counted : counts ≡ tally 65 found
   right : (N : Network) → LowerTwins N lower → Alone N lower alone → RowsPresent N rows → found ≡ map (widthOf N) (take i rows)
-  together : Together (take i rows) edges
+  gathered : EdgesOf (take i rows) edges
 
 abbrev Inv-loop : tie.InvT-loop
 Inv-loop lower alone rows counts₀ edges₀ i₀ counts edges i = Turn lower (alone .0) rows counts (edges .0) i
@@ -45,7 +45,7 @@ empty-requires c κs = search needs
 
 loop-holds : tie.Need-loop-holds Inv-loop μ-loop
 loop-holds c =
-    record { within = omega arith; found = []; many = refl; counted = tally-none 65; right = λ N twins single inside. refl; together = together-none _ (c .empty .ensures) }
+    record { within = omega arith; found = []; many = refl; counted = tally-none 65; right = λ N twins single inside. refl; gathered = edgesOf-none _ (c .empty .ensures) }
 
 mul-counts : tie.Need-mul-counts Inv-loop μ-loop
 mul-counts c = search needs
@@ -102,7 +102,7 @@ loop-again c =
       right = λ N twins single inside.
           let width = found-width N (a .lower .now) (a .alone .0) twins single (getD rows (l .i) 0) _ (inside _ (mem-at rows (l .i) 0 h)) (c .before .leading .ensures) in
           map-next (widthOf N) rows (l .i) h (l .inv .right N twins single inside) (c .size .ensures ∙ width);
-      together = together-next rows (l .i) _ _ h (l .inv .together) (in-union _ _ _ (c .before .before .union .ensures));
+      gathered = edgesOf-next rows (l .i) _ _ h (l .inv .gathered) (in-union _ _ _ (c .before .before .union .ensures));
     }
 
 returns : tie.Need-returns Inv-loop μ-loop
@@ -111,7 +111,7 @@ returns c =
     let rows = c .before .before .before .before .args .rows .now in
     let all : l .i ≡ length rows = omega (arith, l .inv .within, c .loop-test .left) in (
       λ N twins single inside. table-of N rows (l .inv .counted) (rw (all, take-length rows) at (l .inv .right N twins single inside)),
-      rw (all, take-length rows) at (l .inv .together),
+      rw (all, take-length rows) at (l .inv .gathered),
     )
 
 pub by-leading-spec : {M : Type 1} → statement M

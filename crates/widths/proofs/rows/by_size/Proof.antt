@@ -1,7 +1,7 @@
--- `rows::by_size` meets its contract. The invariant: the rows passed are counted, and their edges are together.
+-- `rows::by_size` meets its contract. The invariant: the rows passed are counted, and their edges are gathered.
 -- The measure is what is left of the length. Assumes nothing.
 use mathlib.Core.List.{List, map}
-use mathlib.Core.Path.{_≡_, ap, _∙_}
+use mathlib.Core.Path.{_≡_, _∙_}
 use Prim.Native.Nat.{ℕ, _+_, _-_, _^_, _≤_, _<_}
 use native.Mathlib.Omega.{arith}
 use borrow.Author.Needs.{needs}
@@ -11,8 +11,8 @@ use Rattle.sequences.specs.Counts.{tally}
 use Rattle.sequences.proofs.Tally.{tally-none}
 use Rattle.bitset.specs.Members.{size}
 use Rattle.bitset.proofs.Results.{in-union}
-use Rattle.widths.specs.Counting.{Together}
-use Rattle.widths.proofs.Counting.{together-none, together-next, size-lt, count-lt, tally-row}
+use Rattle.widths.specs.Counting.{EdgesOf}
+use Rattle.widths.proofs.Counting.{edgesOf-none, edgesOf-next, size-lt, count-lt, tally-row}
 use Rattle.widths.proofs.rows.by_size.Statement.{statement}
 use Rattle.widths.proofs.rows.by_size.Tie as tie
 
@@ -20,7 +20,7 @@ use Rattle.widths.proofs.rows.by_size.Tie as tie
 record Turn (rows counts : List ℕ) (edges i : ℕ) : Type 0 where
   within : i ≤ length rows
   counted : counts ≡ tally 65 (map (size 64) (take i rows))
-  together : Together (take i rows) edges
+  gathered : EdgesOf (take i rows) edges
 
 abbrev Inv-loop : tie.InvT-loop
 Inv-loop rows counts₀ edges₀ i₀ counts edges i = Turn rows counts (edges .0) i
@@ -32,25 +32,25 @@ empty-requires : tie.Need-empty-requires Inv-loop μ-loop
 empty-requires c κs = search needs
 
 loop-holds : tie.Need-loop-holds Inv-loop μ-loop
-loop-holds c = record { within = omega arith; counted = tally-none 65; together = together-none _ (c .empty .ensures) }
+loop-holds c = record { within = omega arith; counted = tally-none 65; gathered = edgesOf-none _ (c .empty .ensures) }
 
 sub-loop : tie.Need-sub-loop Inv-loop μ-loop
 sub-loop c = search needs
 
-mul-t9 : tie.Need-mul-t9 Inv-loop μ-loop
-mul-t9 c = search needs
+mul-t10 : tie.Need-mul-t10 Inv-loop μ-loop
+mul-t10 c = search needs
 
-shared-slice-read-t13 : tie.Need-shared-slice-read-t13 Inv-loop μ-loop
-shared-slice-read-t13 c = search needs
+shared-slice-read-t14 : tie.Need-shared-slice-read-t14 Inv-loop μ-loop
+shared-slice-read-t14 c = search needs
 
-add-t10 : tie.Need-add-t10 Inv-loop μ-loop
-add-t10 c = search needs
+add-t11 : tie.Need-add-t11 Inv-loop μ-loop
+add-t11 c = search needs
 
-mul-t9-2 : tie.Need-mul-t9-2 Inv-loop μ-loop
-mul-t9-2 c = search needs
+mul-t10-2 : tie.Need-mul-t10-2 Inv-loop μ-loop
+mul-t10-2 c = search needs
 
-shared-slice-read-t13-2 : tie.Need-shared-slice-read-t13-2 Inv-loop μ-loop
-shared-slice-read-t13-2 c = search needs
+shared-slice-read-t14-2 : tie.Need-shared-slice-read-t14-2 Inv-loop μ-loop
+shared-slice-read-t14-2 c = search needs
 
 union-requires : tie.Need-union-requires Inv-loop μ-loop
 union-requires c κs = search needs
@@ -105,12 +105,12 @@ loop-again c =
     let after : l .i + 1 + 1 ≡ l .i + 2 = omega arith in
     let first = tally-row (size 64) rows (l .counts) (l .i) _ (omega (arith, taken)) (c .before .before .size .ensures) (size-lt _ (c .before .before .size .ensures)) (l .inv .counted) in
     let second = tally-row (size 64) rows _ (l .i + 1) _ (omega (arith, taken)) (c .before .size2 .ensures) (size-lt _ (c .before .size2 .ensures)) first in
-    let edges = together-next rows (l .i) _ _ (omega (arith, taken)) (l .inv .together) (in-union _ _ _ (c .before .before .before .before .before .union .ensures)) in
-    let both = together-next rows (l .i + 1) _ _ (omega (arith, taken)) edges (in-union _ _ _ (c .before .before .before .before .union2 .ensures)) in
+    let edges = edgesOf-next rows (l .i) _ _ (omega (arith, taken)) (l .inv .gathered) (in-union _ _ _ (c .before .before .before .before .before .union .ensures)) in
+    let both = edgesOf-next rows (l .i + 1) _ _ (omega (arith, taken)) edges (in-union _ _ _ (c .before .before .before .before .union2 .ensures)) in
     record {
       within = omega (arith, taken);
       counted = c .raise-two .ensures ∙ rw after at second;
-      together = rw after at both;
+      gathered = rw after at both;
     }
 
 mul-counts : tie.Need-mul-counts Inv-loop μ-loop
@@ -152,7 +152,7 @@ returns c =
     let rows = turn .before .before .before .before .before .args .rows .now in
     let all : l .i + 1 ≡ length rows = omega (arith, l .inv .within, turn .if1 .taken, turn .before .loop-test .left) in
     let counted = tally-row (size 64) rows (l .counts) (l .i) _ (turn .if1 .taken) (c .size3 .ensures) (size-lt _ (c .size3 .ensures)) (l .inv .counted) in
-    let edges = together-next rows (l .i) _ _ (turn .if1 .taken) (l .inv .together) (in-union _ _ _ (c .before .union3 .ensures)) in
+    let edges = edgesOf-next rows (l .i) _ _ (turn .if1 .taken) (l .inv .gathered) (in-union _ _ _ (c .before .union3 .ensures)) in
     (rw (all, take-length rows) at counted, rw (all, take-length rows) at edges)
 
 returns-2 : tie.Need-returns-2 Inv-loop μ-loop
@@ -160,7 +160,7 @@ returns-2 c =
     let l = c .before .before .loop in
     let rows = c .before .before .before .before .before .args .rows .now in
     let all : l .i ≡ length rows = omega (arith, l .inv .within, c .if1 .left) in
-    (rw (all, take-length rows) at (l .inv .counted), rw (all, take-length rows) at (l .inv .together))
+    (rw (all, take-length rows) at (l .inv .counted), rw (all, take-length rows) at (l .inv .gathered))
 
 pub by-size-spec : {M : Type 1} → statement M
 by-size-spec =
@@ -171,11 +171,11 @@ by-size-spec =
     empty-requires
     loop-holds
     sub-loop
-    mul-t9
-    shared-slice-read-t13
-    add-t10
-    mul-t9-2
-    shared-slice-read-t13-2
+    mul-t10
+    shared-slice-read-t14
+    add-t11
+    mul-t10-2
+    shared-slice-read-t14-2
     union-requires
     union-requires-2
     size-requires

@@ -1,8 +1,7 @@
 -- `twins::led` meets its contract.
 -- Assumes nothing.
 use borrow.Author.Needs.{needs}
-use Rattle.bitset.proofs.Results.{in-intersection}
-use Rattle.widths.proofs.Leading.{meets-test}
+use Rattle.bitset.proofs.Results.{in-intersection, meets-test}
 use Rattle.widths.proofs.twins.led.Statement.{statement}
 use Rattle.widths.proofs.twins.led.Tie as tie
 
