@@ -22,8 +22,8 @@ pub(crate) struct RowCounts {
     pub edges: EdgeSet,
 }
 
-// Raises the count of one width by one, and then that of another or of the same. Both are read before either is stored: where rows of one
-// width follow each other, each count would wait for the one before it.
+// Raises the count of one width by one, and then that of another or of the same. Both are read before either is stored: else, where rows of
+// one width follow each other, each would wait until the count of the one before it was stored.
 fn raise_two(counts: &mut [u64; 65], one: usize, next: usize)
     requires { ⌜ (one < 65) × (next < 65) × (getD (now counts) one 0 + 2 < 2 ^ 64) × (getD (now counts) next 0 + 2 < 2 ^ 64) ⌝ }
     ensures { λ _. ⌜ now (counts .exit) ≡ raised (raised (now (counts .entry)) one) next ⌝ }
