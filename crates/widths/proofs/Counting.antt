@@ -17,8 +17,8 @@ use Rattle.bitset.proofs.Size.{size-le}
 use Rattle.network.specs.declared.Network.{Network}
 use Rattle.network.specs.Record.{present}
 use Rattle.network.specs.Rules.{RowsPresent}
+use Rattle.twins.specs.Twins.{LowerTwins, Alone}
 use Rattle.widths.specs.Counting.{EdgesOf, raised}
-use Rattle.widths.specs.Twins.{LowerTwins, Alone}
 use Rattle.widths.specs.Widths.{widthOf, widthTable}
 use Rattle.widths.proofs.Leading.{alone-width}
 use Rattle.widths.proofs.WidthTable.{table-by}

@@ -17,8 +17,8 @@ use Rattle.bitset.proofs.Sets.{∈-dec, in-insert}
 use Rattle.bitset.proofs.MemberList.{in-members, members-rising, length-members}
 use Rattle.network.specs.declared.Network.{Network}
 use Rattle.network.specs.Ends.{endsOf}
+use Rattle.twins.specs.Twins.{Leading}
 use Rattle.widths.specs.Widths.{pairsOf, widthOf}
-use Rattle.widths.specs.Twins.{Leading}
 
 module _ (N : Network) where
   -- Edge by edge: what the edges of a set join.

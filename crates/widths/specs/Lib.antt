@@ -1,4 +1,3 @@
 -- The definitions that the contracts of `widths` cite.
 pub mod Widths
-pub mod Twins
 pub mod Counting

@@ -1,6 +1,5 @@
 // Widths: `width_table`, how many rows of a list there are of each width. It takes whatever it is given.
 mod rows;
-mod twins;
 
 use edge_set::EdgeSet;
 use network::Network;

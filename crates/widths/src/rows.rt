@@ -1,7 +1,7 @@
 // Rows counted by width: one after the other where some edge has a lower twin, and two at a time where none has.
-use crate::twins::leading;
 use edge_set::EdgeSet;
 use network::Network;
+use twins::leading;
 ghost use mathlib.Core.List.{map};
 ghost use mathlib.Core.Path.{_≡_};
 ghost use Prim.Native.Nat.{_+_, _^_, _<_};
@@ -9,8 +9,8 @@ ghost use lib.ListN.{getD};
 ghost use Rattle.sequences.specs.Counts.{tally};
 ghost use Rattle.bitset.specs.Members.{size};
 ghost use Rattle.network.specs.Rules.{RowsPresent};
+ghost use Rattle.twins.specs.Twins.{LowerTwins, Alone};
 ghost use Rattle.widths.specs.Counting.{EdgesOf, raised};
-ghost use Rattle.widths.specs.Twins.{LowerTwins, Alone};
 ghost use Rattle.widths.specs.Widths.{widthTable};
 
 // No row of any width.

@@ -11,12 +11,12 @@ use Rattle.network.specs.declared.Network.{Network}
 use Rattle.network.specs.Record.{faultOf, present, Stored}
 use Rattle.network.specs.Rules.{RowsPresent}
 use Rattle.network.proofs.Sets.{rows-record, rows-absent, rows-none}
+use Rattle.twins.specs.Twins.{Alone}
+use Rattle.twins.proofs.Twins.{alone-found}
 use Rattle.widths.specs.declared.rows.RowCounts.{RowCounts}
 use Rattle.widths.specs.Counting.{EdgesOf}
-use Rattle.widths.specs.Twins.{Alone}
 use Rattle.widths.specs.Widths.{widthTable}
 use Rattle.widths.proofs.Answers.{widths-refused, widths-given, widths-mean}
-use Rattle.widths.proofs.Leading.{alone-found}
 use Rattle.widths.proofs.Counting.{edgesOf-within, table-plain}
 use Rattle.widths.proofs.width_table.Statement.{statement}
 use Rattle.widths.proofs.width_table.Tie as tie

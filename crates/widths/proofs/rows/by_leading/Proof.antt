@@ -13,8 +13,8 @@ use Rattle.sequences.proofs.Tally.{tally-none, tally-next}
 use Rattle.bitset.proofs.Results.{in-union}
 use Rattle.network.specs.declared.Network.{Network}
 use Rattle.network.specs.Rules.{RowsPresent}
+use Rattle.twins.specs.Twins.{LowerTwins, Alone}
 use Rattle.widths.specs.Counting.{EdgesOf}
-use Rattle.widths.specs.Twins.{LowerTwins, Alone}
 use Rattle.widths.specs.Widths.{widthOf}
 use Rattle.widths.proofs.Leading.{found-width}
 use Rattle.widths.proofs.Counting.{edgesOf-none, edgesOf-next, size-lt, count-lt, map-next, table-of}

@@ -1,4 +1,4 @@
--- `twins::leading` meets its contract. The invariant: of the edges gone through those without a lower twin in the set stay.
+-- `leading` meets its contract. The invariant: of the edges gone through those without a lower twin in the set stay.
 -- The measure is the set of edges left. Assumes nothing.
 use mathlib.Core.Logic.{inl, inr}
 use borrow.Author.Needs.{needs}
@@ -6,8 +6,8 @@ use lib.ListN.{getD}
 use Rattle.bitset.specs.Families.{Meets}
 use Rattle.bitset.proofs.Results.{in-without, in-difference}
 use Rattle.bitset.proofs.Scans.{Less, less-lowest, less-lt, none-left, Sifted, sifted-first, sifted-stays, sifted-goes, sifted-last}
-use Rattle.widths.proofs.twins.leading.Statement.{statement}
-use Rattle.widths.proofs.twins.leading.Tie as tie
+use Rattle.twins.proofs.leading.Statement.{statement}
+use Rattle.twins.proofs.leading.Tie as tie
 
 abbrev Inv-loop : tie.InvT-loop
 Inv-loop lower set leads₀ left₀ leads left = Sifted (λ k. Meets (getD lower k 0) (set .0) → ⊥) (leads₀ .0) (left₀ .0) (left .0) (leads .0)

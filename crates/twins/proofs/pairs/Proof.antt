@@ -1,4 +1,4 @@
--- `twins::pairs` meets its contract. The invariant: the slots before k hold their pairs.
+-- `pairs` meets its contract. The invariant: the slots before k hold their pairs.
 -- The measure is the number of slots left. Assumes nothing.
 use mathlib.Core.List.{List}
 use mathlib.Core.Path.{_≡_, refl, ap, _∙_}
@@ -16,8 +16,8 @@ use Rattle.network.specs.declared.Network.{Network}
 use Rattle.network.specs.Record.{secondEnd}
 use Rattle.network.specs.Ends.{endsOf}
 use Rattle.network.proofs.Rules.{ends-within}
-use Rattle.widths.proofs.twins.pairs.Statement.{statement}
-use Rattle.widths.proofs.twins.pairs.Tie as tie
+use Rattle.twins.proofs.pairs.Statement.{statement}
+use Rattle.twins.proofs.pairs.Tie as tie
 
 -- What holds at each turn.
 record Turn (network : Network) (pairs : List ℕ) (k : ℕ) : Type 0 where

@@ -1,4 +1,4 @@
--- `twins::lower_twins` meets its contract. The invariant: the rows of the edges gone through are filled.
+-- `lower_twins` meets its contract. The invariant: the rows of the edges gone through are filled.
 -- The measure is the set of edges left. Assumes nothing.
 use mathlib.Core.List.{List}
 use mathlib.Core.Path.{_≡_, refl, _∙_}
@@ -8,9 +8,9 @@ use lib.ListN.{length, getD, length-set}
 use Rattle.bitset.proofs.Results.{in-intersection}
 use Rattle.bitset.proofs.Scans.{Less, less-lowest, less-lt, none-left, Done, done-first}
 use Rattle.network.specs.Record.{present}
-use Rattle.widths.proofs.Leading.{RowTwins, row-twins, rows-next, rows-all}
-use Rattle.widths.proofs.twins.lower_twins.Statement.{statement}
-use Rattle.widths.proofs.twins.lower_twins.Tie as tie
+use Rattle.twins.proofs.Twins.{RowTwins, row-twins, rows-next, rows-all}
+use Rattle.twins.proofs.lower_twins.Statement.{statement}
+use Rattle.twins.proofs.lower_twins.Tie as tie
 
 -- What holds at each turn.
 record Turn (edges : ℕ) (pairs lower : List ℕ) (left : ℕ) : Type 0 where

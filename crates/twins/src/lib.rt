@@ -1,4 +1,7 @@
-// Twins, edges that join the same pair of nodes (the paper's trunk): the leading one of each pair is counted, the others are not.
+// Twins, edges that join the same pair of nodes (the paper's trunk): of those of a set the lowest leads.
+//
+//   lower_twins      for each edge those below it that join the same pair
+//   leading          the edges of a set that have no lower twin in it
 use edge_set::EdgeSet;
 use network::Network;
 use node_set::NodeSet;
@@ -12,7 +15,7 @@ ghost use Rattle.bitset.specs.Families.{Meets};
 ghost use Rattle.bitset.specs.Members.{_∈_};
 ghost use Rattle.network.specs.Record.{faultOf};
 ghost use Rattle.network.specs.Ends.{endsOf};
-ghost use Rattle.widths.specs.Twins.{LowerTwins};
+ghost use Rattle.twins.specs.Twins.{LowerTwins};
 
 // The pair of nodes that each edge of an accepted network joins, whichever end comes first.
 fn pairs(network: Network) -> [NodeWord; 64]
@@ -49,7 +52,7 @@ fn joining(pairs: &[NodeWord; 64], edges: EdgeSet, pair: NodeWord) -> EdgeSet
 }
 
 // For each edge present of an accepted network its lower twins.
-pub(crate) fn lower_twins(network: Network) -> [u64; 64]
+pub fn lower_twins(network: Network) -> [u64; 64]
     requires { ⌜ faultOf network ≡ 0 ⌝ }
     ensures { λ r. ⌜ LowerTwins network r ⌝ }
 {
@@ -80,7 +83,7 @@ fn led(lower: &[u64; 64], k: u32, set: EdgeSet) -> bool
 }
 
 // The edges of a set that have no lower twin in it. Those of `alone` have none anywhere and are not looked at.
-pub(crate) fn leading(lower: &[u64; 64], alone: EdgeSet, set: EdgeSet) -> EdgeSet
+pub fn leading(lower: &[u64; 64], alone: EdgeSet, set: EdgeSet) -> EdgeSet
     ensures { λ r. ⌜ ((k : ℕ) → (k ∈ r .0) ↔ ((k ∈ set .0) × ((k ∈ alone .0 → ⊥) → Meets (getD (now (lower .entry)) k 0) (set .0) → ⊥))) ⌝ }
 {
     let mut leads = set;

@@ -1,4 +1,4 @@
--- `twins::joining` meets its contract. The invariant: of the edges gone through those with the pair stay.
+-- `joining` meets its contract. The invariant: of the edges gone through those with the pair stay.
 -- The measure is the set of edges left. Assumes nothing.
 use mathlib.Core.Logic.{inl, inr}
 use mathlib.Core.Path.{_≡_}
@@ -6,8 +6,8 @@ use borrow.Author.Needs.{needs}
 use lib.ListN.{getD}
 use Rattle.bitset.proofs.Results.{in-without}
 use Rattle.bitset.proofs.Scans.{Less, less-lowest, less-lt, none-left, Sifted, sifted-first, sifted-stays, sifted-goes, sifted-last}
-use Rattle.widths.proofs.twins.joining.Statement.{statement}
-use Rattle.widths.proofs.twins.joining.Tie as tie
+use Rattle.twins.proofs.joining.Statement.{statement}
+use Rattle.twins.proofs.joining.Tie as tie
 
 abbrev Inv-loop : tie.InvT-loop
 Inv-loop pairs pair joins₀ left₀ joins left = Sifted (λ j. getD pairs j 0 ≡ pair) (left₀ .0) (left₀ .0) (left .0) (joins .0)

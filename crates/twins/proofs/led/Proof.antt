@@ -1,9 +1,9 @@
--- `twins::led` meets its contract.
+-- `led` meets its contract.
 -- Assumes nothing.
 use borrow.Author.Needs.{needs}
 use Rattle.bitset.proofs.Results.{in-intersection, meets-test}
-use Rattle.widths.proofs.twins.led.Statement.{statement}
-use Rattle.widths.proofs.twins.led.Tie as tie
+use Rattle.twins.proofs.led.Statement.{statement}
+use Rattle.twins.proofs.led.Tie as tie
 
 mul-t6 : tie.Need-mul-t6
 mul-t6 c = search needs

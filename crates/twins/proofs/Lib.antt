@@ -1,0 +1,2 @@
+-- The laws of twins.
+pub mod Twins

@@ -1,0 +1,2 @@
+-- The definitions that the contracts of `twins` cite.
+pub mod Twins
