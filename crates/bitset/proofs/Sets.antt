@@ -1,7 +1,7 @@
 -- Membership as a proposition: what it is to be a member after each operation on a set, and that this is decided.
 -- Assumes nothing.
 use mathlib.Core.Path.{_≡_, refl, sym, ap, subst, _∙_}
-use mathlib.Core.Bool.{false, not}
+use mathlib.Core.Bool.{Bool, true, false, not}
 use mathlib.Core.Logic.{_⊎_, inl, inr, ⊎-map, _↔_, Dec·not-not}
 use Prim.Native.Nat.{ℕ, suc, _-_, _%_, _^_, _<_}
 use native.Mathlib.Nat.{lt-of-not-le, eq-or-lt-of-le, mod-lt}
@@ -10,8 +10,8 @@ use denote.Floats.{passes}
 use lib.Bits.{bitAnd, bitOr, or-zero-l}
 use lib.Count.{trailingZeros}
 use lib.Pow.{pow-pos}
-use lib.Dec.{eqb, ltb, ltb→lt, lt→ltb}
-use Rattle.bitset.specs.Members.{has, _∈_, _⊆_, insert, _∖_, size}
+use lib.Dec.{T, eqb, ltb, ltb→lt, lt→ltb}
+use Rattle.bitset.specs.Members.{has, _∈_, _⊆_, insert, addIf, _∖_, size}
 use Rattle.sequences.proofs.Tests.{T-dec, T-or, T-and, T-not, T-eqb}
 use Rattle.bitset.proofs.Members.{same-members-below, lt-pow, has-bounded, has-zero, has-power, has-and, has-or, has-minus, has-insert, has-mod, has-ones, insert-or}
 use Rattle.bitset.proofs.Subsets.{same-test, ⊆-antisym}
@@ -35,6 +35,15 @@ in-insert s k j = rw (has-insert s k j) (
   λ t. ⊎-map (λ m. m) (T-eqb j k .0) (T-or (has s j) (eqb j k) .0 t),
   λ c. T-or (has s j) (eqb j k) .1 (⊎-map (λ m. m) (T-eqb j k .1) c),
 )
+
+-- The members after an insertion under a condition.
+pub in-addIf : (b : Bool) (s k j : ℕ) → (j ∈ addIf b s k) ↔ ((j ∈ s) ⊎ (T b × (j ≡ k)))
+unfolding addIf
+in-addIf true s k j = (
+  λ m. elim (in-insert s k j .0 m) [ inl l ↦ inl l | inr e ↦ inr (tt, e) ],
+  λ c. in-insert s k j .1 (elim c [ inl l ↦ inl l | inr e ↦ inr (e .1) ]),
+)
+in-addIf false s k j = (λ m. inl m, λ c. elim c [ inl m ↦ m | inr e ↦ absurd (e .0) ])
 
 -- What is no member after an insertion.
 pub not-insert : (s v k : ℕ) → (k ∈ insert s v → ⊥) ↔ ((k ∈ s → ⊥) × (k ≡ v → ⊥))

@@ -5,6 +5,7 @@
 --   k ∈ s            k is a member of s
 --   s ⊆ t            every member of s is a member of t
 --   insert s k       s with the member k  [computed: in-insert (bitset/proofs/Sets)]
+--   addIf b s k      s with the member k where b holds, else s  [computed: in-addIf (bitset/proofs/Sets)]
 --   s ∖ t            the members of s that are not in t  [computed: in-minus (bitset/proofs/Sets)]
 --   size w s         how many members s has below w
 --   Lowest w s r     r is the lowest member of s below w, and is w if there is none  [working]
@@ -38,6 +39,9 @@ s ⊆ t = (k : ℕ) → k ∈ s → k ∈ t
 
 unfoldable pub insert : ℕ → ℕ → ℕ
 insert s k = elim (has s k) [ true ↦ s | false ↦ s + 2 ^ k ]
+
+unfoldable pub addIf : Bool → ℕ → ℕ → ℕ
+addIf b s k = elim b [ true ↦ insert s k | false ↦ s ]
 
 -- The common members are taken off the number.
 unfoldable pub _∖_ : ℕ → ℕ → ℕ

@@ -9,18 +9,17 @@ use mathlib.Core.Logic.{_⊎_, inl, inr, _↔_}
 use Prim.Native.Nat.{ℕ, _-_, _%_, _^_, _<_}
 use native.Mathlib.Omega.{arith}
 use lib.Dec.{T, eqb, ltb}
-use Rattle.bitset.specs.Members.{has, _⊆_, insert, _∖_, _∈_}
+use Rattle.bitset.specs.Members.{has, _⊆_, insert, addIf, _∖_, _∈_}
 use Rattle.bitset.proofs.Subsets.{⊆-antisym}
 use Rattle.sequences.proofs.Tests.{T-and}
-use Rattle.bitset.proofs.Sets.{member-lt, in-mod, in-insert, in-single, in-drop}
+use Rattle.bitset.proofs.Sets.{member-lt, in-mod, in-insert, in-addIf, in-single, in-drop}
 use Rattle.bitset.proofs.Results.{single-power, with-member, without-minus}
 use Rattle.node_set.specs.Width.{nodeWidth}
 use Rattle.network.specs.declared.Network.{Network}
 use Rattle.network.specs.Record.{hasEdge, firstEnd, secondEnd, present}
 use Rattle.graph.specs.Cuts.{only}
-use Rattle.graph.specs.Reach.{addIf, reachOf}
+use Rattle.graph.specs.Reach.{reachOf}
 use Rattle.graph.specs.Relevant.{twoIn, edgesWithin, past}
-use Rattle.graph.proofs.Reach.{in-addIf}
 use Rattle.graph.proofs.EdgeSets.{in-chosen, in-edgesWithin}
 use Rattle.graph.proofs.Sound.{Sound}
 use Rattle.spread.specs.Spread.{Reached}

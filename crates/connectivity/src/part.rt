@@ -11,7 +11,7 @@ use spread::reach;
 ghost use mathlib.Core.Path.{_≡_};
 ghost use Prim.Native.Nat.{_%_, _^_, _<_};
 ghost use Rattle.network.specs.Record.{faultOf};
-ghost use Rattle.graph.specs.Reach.{addIf};
+ghost use Rattle.bitset.specs.Members.{addIf};
 ghost use Rattle.graph.specs.Relevant.{twoIn, edgesWithin, past, relevantNodes};
 ghost use Rattle.adjacency.specs.Adjacency.{Adjacency};
 ghost use Rattle.connectivity.specs.Answers.{relevantOf, PartMeans};

@@ -11,7 +11,7 @@ use lib.ListN.{length, getD}
 use Rattle.sequences.specs.Words.{every, passing, tabulate}
 use Rattle.sequences.proofs.Words.{T-every}
 use Rattle.sequences.proofs.Places.{mem-at}
-use Rattle.bitset.specs.Members.{has, insert, _∖_, subsets, membersFrom}
+use Rattle.bitset.specs.Members.{has, insert, addIf, _∖_, subsets, membersFrom}
 use Rattle.sequences.proofs.Tests.{T-and, T-eqb}
 use Rattle.network.specs.declared.Network.{Network}
 use Rattle.network.specs.Record.{_when_, _then_, sizeFault, outsideFault, rowsFault, bare, withEdge}
@@ -22,7 +22,7 @@ use Rattle.sequences.specs.Distinct.{once}
 use Rattle.widths.specs.Widths.{pairsOf, widthOf, widthTable}
 use Rattle.widths.proofs.Answers.{widths-given}
 use Rattle.graph.specs.Cuts.{only, Cut, Mincut}
-use Rattle.graph.specs.Reach.{addIf, across, roundOver, rounds, reachOf}
+use Rattle.graph.specs.Reach.{across, roundOver, rounds, reachOf}
 use Rattle.graph.specs.CutTests.{severed, cutTest, allNeeded, mincutTest}
 use Rattle.graph.specs.Relevant.{chosen, twoIn, edgesWithin, past, pastAll, relevantNodes, relevantEdges, sourceSideOf}
 use Rattle.graph.proofs.Sound.{Sound, accepted-sound}

@@ -11,7 +11,7 @@ use lib.Dec.{T, eqb}
 use Rattle.bitset.specs.Members.{has, _⊆_, _∈_}
 use Rattle.bitset.proofs.Members.{has-zero}
 use Rattle.sequences.proofs.Tests.{T-and, T-or, T-not, T-eqb}
-use Rattle.bitset.proofs.Sets.{member-lt}
+use Rattle.bitset.proofs.Sets.{in-addIf, member-lt}
 use Rattle.network.specs.declared.Network.{Network}
 use Rattle.network.specs.Record.{hasEdge, firstEnd, secondEnd, present}
 use Rattle.graph.specs.Paths.{Joins, Hop, Leads, edgesOf}
@@ -19,7 +19,7 @@ use Rattle.graph.specs.Cuts.{only}
 use Rattle.graph.specs.Reach.{reachOf, Bounded}
 use Rattle.graph.specs.Relevant.{chosen, edgesAt, twoIn, edgesWithin}
 use Rattle.graph.proofs.Walks.{leads-within}
-use Rattle.graph.proofs.Reach.{in-addIf, bounded-only, in-reach-single}
+use Rattle.graph.proofs.Reach.{bounded-only, in-reach-single}
 
 -- The chosen numbers are those below n that pass the test.
 pub in-chosen : (f : ℕ → Bool) (n k : ℕ) → (k ∈ chosen f n) ↔ ((k < n) × T (f k))

@@ -12,28 +12,19 @@ use native.Mathlib.Decide.{decLt}
 use native.Mathlib.Omega.{arith}
 use borrow.Author.Tests.{eq-eqb, eqb-true}
 use denote.Floats.{is-true}
-use lib.Dec.{T, eqb}
-use Rattle.bitset.specs.Members.{has, _⊆_, size, _∈_}
+use lib.Dec.{eqb}
+use Rattle.bitset.specs.Members.{has, _⊆_, addIf, size, _∈_}
 use Rattle.bitset.proofs.Subsets.{⊆-antisym, same-test, subset-le}
 use Rattle.bitset.proofs.Size.{size-le, size-lt}
-use Rattle.bitset.proofs.Sets.{∈-dec, in-insert, in-single, member-lt}
+use Rattle.bitset.proofs.Sets.{∈-dec, in-addIf, in-single, member-lt}
 use Rattle.bitset.proofs.MemberList.{in-members}
 use Rattle.network.specs.declared.Network.{Network}
 use Rattle.network.specs.Record.{firstEnd, secondEnd, present}
 use Rattle.graph.specs.Paths.{Joins, Hop, Leads, Connected}
 use Rattle.graph.specs.Cuts.{only}
-use Rattle.graph.specs.Reach.{Bounded, addIf, across, edgeList, roundOver, rounds, round, reachOf, Closed}
+use Rattle.graph.specs.Reach.{Bounded, across, edgeList, roundOver, rounds, round, reachOf, Closed}
 
 -- ---- a round
-
--- The members after an insertion under a condition.
-pub in-addIf : (b : Bool) (t v x : ℕ) → (x ∈ addIf b t v) ↔ ((x ∈ t) ⊎ (T b × (x ≡ v)))
-unfolding addIf
-in-addIf true t v x = (
-  λ m. elim (in-insert t v x .0 m) [ inl l ↦ inl l | inr e ↦ inr (tt, e) ],
-  λ c. in-insert t v x .1 (elim c [ inl l ↦ inl l | inr e ↦ inr (e .1) ]),
-)
-in-addIf false t v x = (λ m. inl m, λ c. elim c [ inl m ↦ m | inr e ↦ absurd (e .0) ])
 
 -- The node v is joined by the edge e to a node of s.
 abbrev pub Beside : Network → ℕ → ℕ → ℕ → Type 0

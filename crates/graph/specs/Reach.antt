@@ -1,7 +1,6 @@
 -- The reachable set (the paper's reach), as it is computed.
 -- Computed: explained by in-reach (graph/proofs/Reach).
 --
---   addIf b t v          t with the member v where b holds, else t
 --   across N s k t       t with each end of the edge k whose other end is in s
 --   edgeList N           the present edges, rising
 --   roundOver N l s      s with every node that an edge of the list l joins to a node of s
@@ -10,17 +9,14 @@
 --   reachOf N s          the nodes that are connected to some node of s: every round but the last adds a node
 --   Closed N s           no present edge leads out of s  [working]
 --   Bounded N            the edges of N have numbers below 64, and their ends are below the node count  [working]
-use mathlib.Core.Bool.{Bool, true, false}
+use mathlib.Core.Bool.{true, false}
 use mathlib.Core.List.{List, foldr}
 use Prim.Native.Nat.{ℕ, zero, suc, _^_, _<_}
 use lib.Dec.{eqb}
-use Rattle.bitset.specs.Members.{has, insert, members, _∈_}
+use Rattle.bitset.specs.Members.{has, addIf, members, _∈_}
 use Rattle.network.specs.declared.Network.{Network}
 use Rattle.network.specs.Record.{firstEnd, secondEnd, present}
 use Rattle.graph.specs.Paths.{Joins}
-
-unfoldable pub addIf : Bool → ℕ → ℕ → ℕ
-addIf b t v = elim b [ true ↦ insert t v | false ↦ t ]
 
 unfoldable pub across : Network → ℕ → ℕ → ℕ → ℕ
 across N s k t = addIf (has s (firstEnd N k)) (addIf (has s (secondEnd N k)) t (firstEnd N k)) (secondEnd N k)

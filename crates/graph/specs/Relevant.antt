@@ -17,11 +17,11 @@ use mathlib.Core.Bool.{Bool, not, xor, _&&_, _||_}
 use Prim.Native.Nat.{ℕ, zero, suc, _-_, _^_}
 use lib.Bits.{bitAnd}
 use lib.Dec.{eqb}
-use Rattle.bitset.specs.Members.{has, insert, _∖_}
+use Rattle.bitset.specs.Members.{has, insert, addIf, _∖_}
 use Rattle.network.specs.declared.Network.{Network}
 use Rattle.network.specs.Record.{hasEdge, firstEnd, secondEnd, present}
 use Rattle.graph.specs.Cuts.{only}
-use Rattle.graph.specs.Reach.{addIf, reachOf}
+use Rattle.graph.specs.Reach.{reachOf}
 
 unfoldable pub chosen : (ℕ → Bool) → ℕ → ℕ
 chosen f zero = 0

@@ -6,5 +6,6 @@ pub mod Distinct
 pub mod Counts
 pub mod Tally
 pub mod Words
+pub mod Ranges
 pub mod Rising
 pub mod Stores

@@ -3,10 +3,11 @@
 use mathlib.Core.Path.{_≡_, refl, sym, ap, _∙_}
 use mathlib.Core.Logic.{_⊎_, inl, inr, _↔_}
 use mathlib.Core.List.{List, [], _∷_, List·Memᴰ, List·Memᴰ·head, List·Memᴰ·tail, List·Memᴰ·not-nil, List·Memᴰ·cases-cons, Memᴰ·cast, map, List·Permᴰ, List·Permᴰ·nil, List·Permᴰ·cons, List·Permᴰ·swap, List·Permᴰ·trans}
-use Prim.Native.Nat.{ℕ, zero, suc, _<_}
+use Prim.Native.Nat.{ℕ, zero, suc, _+_, _<_}
 use native.Mathlib.Nat.{le-of-suc-le-suc, not-suc-le-zero, zero-lt-suc}
 use native.Mathlib.Omega.{arith}
-use lib.ListN.{length, getD}
+use lib.ListN.{length, getD, drop}
+use lib.Seq.{drop-cons}
 use Rattle.sequences.specs.Words.{tabulate}
 
 -- What stands at a place of a list is a member.
@@ -61,3 +62,17 @@ perm-length List·Permᴰ·nil = refl
 perm-length (List·Permᴰ·cons e p) = ap suc (perm-length p)
 perm-length (List·Permᴰ·swap e f) = refl
 perm-length (List·Permᴰ·trans p q) = perm-length p ∙ perm-length q
+
+module _ (l : List ℕ) (i : ℕ) where
+  -- From a place on: two numbers and the later ones; three.
+  pub drop-two : i + 1 < length l → drop i l ≡ getD l i 0 ∷ getD l (i + 1) 0 ∷ drop (i + 2) l
+  drop-two h =
+      let one : suc i ≡ i + 1 = omega arith in
+      let two : suc (i + 1) ≡ i + 2 = omega arith in
+      drop-cons l i 0 (omega arith)
+      ∙ ap (λ d. getD l i 0 ∷ d) (ap (λ j. drop j l) one ∙ drop-cons l (i + 1) 0 h ∙ ap (λ j. getD l (i + 1) 0 ∷ drop j l) two)
+
+  pub drop-three : i + 2 < length l → drop i l ≡ getD l i 0 ∷ getD l (i + 1) 0 ∷ getD l (i + 2) 0 ∷ drop (i + 3) l
+  drop-three h =
+      let three : suc (i + 2) ≡ i + 3 = omega arith in
+      drop-two (omega arith) ∙ ap (λ d. getD l i 0 ∷ getD l (i + 1) 0 ∷ d) (drop-cons l (i + 2) 0 h ∙ ap (λ j. getD l (i + 2) 0 ∷ drop j l) three)

@@ -3,7 +3,7 @@
 use mathlib.Core.Path.{sym}
 use native.Mathlib.Nat.{mod-eq-of-lt}
 use Rattle.bitset.proofs.Results.{with-insert}
-use Rattle.graph.specs.Reach.{addIf}
+use Rattle.bitset.specs.Members.{addIf}
 use borrow.Author.Needs.{needs}
 use Rattle.connectivity.proofs.part.keep_if.Statement.{statement}
 use Rattle.connectivity.proofs.part.keep_if.Tie as tie

@@ -1,0 +1,88 @@
+-- The numbers from one on: which they are, that they rise, and how many of them pass a test.
+-- Assumes nothing.
+use mathlib.Core.Path.{_≡_, refl, ap, ap₂, _∙_}
+use mathlib.Core.Bool.{Bool, true, false, cond}
+use mathlib.Core.List.{List, [], _∷_, _++_, Pairwise·nil, Pairwise·cons, List·Memᴰ, List·Memᴰ·head, List·Memᴰ·tail, List·Memᴰ·not-nil, List·Memᴰ·cases-cons}
+use mathlib.Core.Logic.{inl, inr, _↔_, ∥∥₁-elim}
+use Prim.Native.Nat.{ℕ, zero, suc, _+_, _-_, _≤_, _<_}
+use native.Mathlib.Bridge.{le-prop}
+use native.Mathlib.Decide.{ℕ-discrete}
+use native.Mathlib.Omega.{arith}
+use lib.ListN.{length}
+use Rattle.sequences.specs.Rising.{Rising}
+use Rattle.sequences.specs.Words.{range, passing}
+use Rattle.sequences.specs.Counts.{countIf}
+use Rattle.sequences.proofs.Counts.{count-nil, count-cons, count-append}
+
+-- There are n of them,
+pub length-range : (k n : ℕ) → length (range k n) ≡ n
+unfolding range
+length-range k zero = refl
+length-range k (suc n) = ap suc (length-range (suc k) n)
+
+-- from k to before k + n,
+pub mem-range : (k n m : ℕ) → List·Memᴰ m (range k n) ↔ ((k ≤ m) × (m < k + n))
+unfolding range
+mem-range k zero m = (λ i. absurd (List·Memᴰ·not-nil i), λ b. absurd (omega (arith, b .0, b .1)))
+mem-range k (suc n) m =
+    let later = mem-range (suc k) n m in (
+      λ i. elim (List·Memᴰ·cases-cons i) [
+        | inl e ↦ (omega arith, omega arith)
+        | inr j ↦ let b = later .0 j in (omega (arith, b .0), omega (arith, b .1))
+      ],
+      λ b. elim (ℕ-discrete m k) [ yes e ↦ List·Memᴰ·head e | no d ↦ List·Memᴰ·tail (later .1 (omega (arith, b .0, d), omega (arith, b .1))) ],
+    )
+
+-- and they rise.
+pub range-rising : (k n : ℕ) → Rising (range k n)
+unfolding range
+range-rising k zero = Pairwise·nil
+range-rising k (suc n) = Pairwise·cons (λ m i. ∥∥₁-elim i le-prop (λ j. mem-range (suc k) n m .0 j .0)) (range-rising (suc k) n)
+
+-- The first and the later ones.
+pub range-append : (k a b : ℕ) → range k (a + b) ≡ range k a ++ range (k + a) b
+unfolding range
+range-append k zero b =
+    let none : 0 + b ≡ b = omega arith in
+    let here : k ≡ k + 0 = omega arith in
+    ap₂ range here none
+range-append k (suc a) b =
+    let more : suc a + b ≡ suc (a + b) = omega arith in
+    let there : suc k + a ≡ k + suc a = omega arith in
+    ap (range k) more ∙ ap (λ l. k ∷ l) (range-append (suc k) a b ∙ ap (λ j. range (suc k) a ++ range j b) there)
+
+module _ (p : ℕ → Bool) where
+  -- As many pass a test as are listed when those that pass are.
+  pub length-passing : (l : List ℕ) → length (passing p l) ≡ countIf p l
+  unfolding passing countIf
+  length-passing [] = refl
+  length-passing (x ∷ l) = go (p x) (length-passing l)
+    where
+      go : (b : Bool) → length (passing p l) ≡ countIf p l
+          → length {A = ℕ} (elim b [ true ↦ x ∷ passing p l | false ↦ passing p l ]) ≡ elim b [ true ↦ suc (countIf p l) | false ↦ countIf p l ]
+      go true e = ap suc e
+      go false e = e
+
+  -- Where all of a range pass or none does, the count is all or nothing.
+  pub count-steady : (b : Bool) (k n : ℕ) → ((j : ℕ) → k ≤ j → j < k + n → p j ≡ b) → countIf p (range k n) ≡ cond b n 0
+  unfolding range
+  count-steady true k zero same = count-nil p
+  count-steady false k zero same = count-nil p
+  count-steady true k (suc n) same =
+      let rest = count-steady true (suc k) n (λ j h l. same j (omega arith) (omega arith)) in
+      count-cons p k (range (suc k) n) ∙ rw (same k (omega arith) (omega arith), rest) (omega arith)
+  count-steady false k (suc n) same =
+      let rest = count-steady false (suc k) n (λ j h l. same j (omega arith) (omega arith)) in
+      count-cons p k (range (suc k) n) ∙ rw (same k (omega arith) (omega arith), rest) (omega arith)
+
+  -- So the count up to a number grows by all or nothing to the next.
+  pub count-on : (b : Bool) (k n : ℕ) → k ≤ n → ((j : ℕ) → k ≤ j → j < n → p j ≡ b)
+      → countIf p (range 0 n) ≡ countIf p (range 0 k) + cond b (n - k) 0
+  count-on b k n h same =
+      let all : n ≡ k + (n - k) = omega arith in
+      let start : 0 + k ≡ k = omega arith in
+      let later = count-steady b k (n - k) (λ j h l. same j h (omega arith)) in
+      ap (λ m. countIf p (range 0 m)) all
+      ∙ ap (countIf p) (range-append 0 k (n - k))
+      ∙ count-append p (range 0 k) (range (0 + k) (n - k))
+      ∙ ap (λ c. countIf p (range 0 k) + c) (ap (λ j. countIf p (range j (n - k))) start ∙ later)
