@@ -4,7 +4,7 @@ use std::ffi::{OsStr, OsString};
 use std::fmt;
 use std::io;
 
-use cutlist::{ListError, Refusal};
+use cutlist::{ListError, Plan, Refusal};
 
 use crate::input;
 use crate::output::{print, say, shown};
@@ -47,7 +47,7 @@ pub fn each(
         };
         // Nothing is printed, the heading neither, unless there is an answer.
         let ended = match input::plan(file) {
-            Some(plan) => tell(file, &heading, answer(&plan))?,
+            Some(plan) => tell(&shown(file), &heading, answer(&plan))?,
             None => Status::Unread,
         };
         largest = largest.max(ended);
@@ -55,14 +55,26 @@ pub fn each(
     Ok(largest)
 }
 
-/// Prints an answer below its heading. Why there are no lines is said after the name of the file that
-/// it is due to. An error is one of standard output.
+/// The plan of a file, for a word that takes another file behind it: a plan that has no answer has it
+/// before that file is looked at. If there is no plan, tells why, and gives how it ended. An error is
+/// one of standard output.
+pub fn plan(file: &OsStr) -> io::Result<Result<Plan, Status>> {
+    let Some(plan) = input::plan(file) else {
+        return Ok(Err(Status::Unread));
+    };
+    match Plan::decode(&plan) {
+        Ok(plan) => Ok(Ok(plan)),
+        Err(refusal) => tell(&shown(file), "", Answer::<String>::of(Err(refusal))).map(Err),
+    }
+}
+
+/// Prints an answer below its heading. Why there are no lines is said after the place that it is due
+/// to: a file's name, and a line of it if one is known. An error is one of standard output.
 pub fn tell<L: fmt::Display>(
-    file: &OsStr,
+    place: &str,
     heading: &str,
     answer: Result<Answer<L>, String>,
 ) -> io::Result<Status> {
-    let name = shown(file);
     match answer {
         Ok(Answer::Given(lines)) => {
             print(format_args!("{heading}{lines}"))?;
@@ -70,11 +82,11 @@ pub fn tell<L: fmt::Display>(
         }
         Ok(Answer::Refused(refusal)) => {
             print(format_args!("{heading}refused {}\n", refusal.number()))?;
-            say(format_args!("{name}: {refusal}"));
+            say(format_args!("{place}: {refusal}"));
             Ok(Status::Refused)
         }
         Err(failure) => {
-            say(format_args!("{name}: {failure}"));
+            say(format_args!("{place}: {failure}"));
             Ok(Status::Lost)
         }
     }

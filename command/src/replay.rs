@@ -8,22 +8,20 @@ use cutlist::{EdgeSet, ListError, Plan, Verdict, DOWN};
 
 use crate::answer::{self, Answer};
 use crate::input;
+use crate::output::shown;
 use crate::status::Status;
 
-/// Plays back the log of one file on the plan of another. A plan that has no answer has it before the
-/// log is looked at. An error is one of standard output.
+/// Plays back the log of one file on the plan of another. An error is one of standard output.
 pub fn run(plan_file: &OsStr, log_file: &OsStr) -> io::Result<Status> {
-    let Some(plan) = input::plan(plan_file) else {
-        return Ok(Status::Unread);
-    };
-    let plan = match Plan::decode(&plan) {
+    let plan = match answer::plan(plan_file)? {
         Ok(plan) => plan,
-        Err(refusal) => return answer::tell(plan_file, "", Answer::<String>::of(Err(refusal))),
+        Err(ended) => return Ok(ended),
     };
     let Some(log) = input::log(log_file) else {
         return Ok(Status::Unread);
     };
-    answer::tell(log_file, "", Answer::of(Played::back(&plan, &log)))
+    let played = Answer::of(Played::back(&plan, &log));
+    answer::tell(&shown(log_file), "", played)
 }
 
 /// A log, and whether the room is silent at first and after each event. Its lines are made as they
