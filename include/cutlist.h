@@ -14,8 +14,8 @@
  *   metres   the length of each cable in metres, 0 if it is not measured or the cable is absent
  *
  * Fill in both ends of every cable present: one whose ends are left 0 is no fault but a loop at point
- * 0, and is in no cut of the list. Metres change no useful part, no verdict, no list, no width and
- * nothing that is written for a log.
+ * 0, and is in no cut of the list. Metres change no useful part, no verdict, no list, no width, no
+ * count of minutes and nothing that is written for a log.
  *
  * struct cutlist_plan holds the fields together, and for each function that takes them one by one
  * there is an inline function that takes the struct: cutlist_plan_fault for cutlist_fault. A call of
@@ -73,6 +73,13 @@ extern "C" {
 #define CUTLIST_DOWN 0x44
 #define CUTLIST_UP 0x55
 
+/* Minutes of a week, of which 0 is the first. */
+#define CUTLIST_WEEK 10080
+
+/* The most windows of either kind. */
+#define CUTLIST_MOST_OPENINGS 14
+#define CUTLIST_MOST_WORKS 16
+
 /* Bytes of stack that suffice for every call. */
 #define CUTLIST_STACK_BYTES 61440
 
@@ -96,7 +103,11 @@ enum cutlist_refusal {
 
     /* By what kept the log. */
     CUTLIST_BAD_EVENT = 16,             /* an event with an unknown command, or half an event */
-    CUTLIST_NO_SUCH_EDGE = 17,          /* an event of a cable not present */
+    CUTLIST_NO_SUCH_EDGE = 17,          /* an event or a works window of a cable not present */
+
+    /* By the one who planned the week. */
+    CUTLIST_TOO_MANY_WINDOWS = 23,      /* more than 14 opening windows, or more than 16 works windows */
+    CUTLIST_BAD_WINDOW = 24,            /* a window whose start is not below its end or whose end is above 10,080, or a piece of one */
 
     /* By the program that calls. */
     CUTLIST_ROWS_DIFFER = 11,           /* cut rows and side rows differ in number */
@@ -296,6 +307,36 @@ uint8_t cutlist_replay(
     size_t *count);
 
 /*
+ * Counts the minutes of a week in which the room is open and silent, while cables are booked out. A
+ * window holds its start and not its end, both minutes of the week: minutes run from 0 to 10079, and
+ * an end is at most CUTLIST_WEEK. Windows may overlap: a minute counts once, and a cable is out once.
+ * One across the week's end is given as two. The room is silent while the cables then out hold a
+ * minimal cut, which is while the others have no route; in a plan without a route it always is, and
+ * without opening windows no minute counts.
+ *
+ * Refusals, in this order: those of cutlist_fault; 23 for more than CUTLIST_MOST_OPENINGS opening
+ * windows or more than CUTLIST_MOST_WORKS works windows, a piece of a window at the end counted as
+ * one; then, opening windows before works windows and window by window, 24 for a start not below its
+ * end, an end above CUTLIST_WEEK, or a piece of a window, and 17, after 24 in the same window, for a
+ * cable not present, whatever its number.
+ *
+ *   openings, openings_length  the opening windows, each two numbers: start and end
+ *   works, works_length        the works windows, each three numbers: start, end and cable
+ *   minutes                    out: how many minutes are open and silent; 0 on refusal
+ */
+uint8_t cutlist_silent_minutes(
+    uint8_t nodes,
+    uint8_t source,
+    uint8_t sink,
+    uint64_t present,
+    const uint8_t first[CUTLIST_SLOTS],
+    const uint8_t second[CUTLIST_SLOTS],
+    const uint16_t metres[CUTLIST_SLOTS],
+    const uint16_t *openings, size_t openings_length,
+    const uint16_t *works, size_t works_length,
+    uint16_t *minutes);
+
+/*
  * Counts the rows of a list by width. The width of a row is the number of different pairs of points
  * that its cables join, whichever end comes first: cables between the same two points count once, and
  * so do loops at one point. Any rows are counted, whether they are cuts or not: one that holds a single
@@ -427,6 +468,17 @@ static inline uint8_t cutlist_plan_replay(
     size_t *count)
 {
     return cutlist_replay(CUTLIST_FIELDS(plan), log, log_length, silent, silent_length, count);
+}
+
+/* Counts the silent minutes of a week, as cutlist_silent_minutes does. */
+static inline uint8_t cutlist_plan_silent_minutes(
+    const struct cutlist_plan *plan,
+    const uint16_t *openings, size_t openings_length,
+    const uint16_t *works, size_t works_length,
+    uint16_t *minutes)
+{
+    return cutlist_silent_minutes(
+        CUTLIST_FIELDS(plan), openings, openings_length, works, works_length, minutes);
 }
 
 /* Counts the rows of a list by width, as cutlist_widths does. */

@@ -1,5 +1,6 @@
 //! The one rule by which plans and logs are read: a name that ends in .hex is text, anything else
-//! and `-`, standard input, is bytes. An input is read once, whatever kind of file it is.
+//! and `-`, standard input, is bytes. A schedule is a text of its own, whatever its name. An input is
+//! read once, whatever kind of file it is.
 
 use std::ffi::OsStr;
 use std::fmt;
@@ -21,6 +22,9 @@ const TOKEN_SHOWN: usize = 40;
 
 /// How many bytes a log may have. It is held whole, since it is checked before anything is printed.
 const LONGEST_LOG: usize = 1 << 28;
+
+/// How many bytes a schedule may have.
+const LONGEST_SCHEDULE: usize = 1 << 20;
 
 /// What is taken from an input.
 #[derive(Clone, Copy)]
@@ -53,11 +57,10 @@ impl fmt::Display for Fault {
         match self {
             Fault::Io(error) => error.fmt(f),
             Fault::Token { line, token } => {
-                let shown = token[..token.len().min(TOKEN_SHOWN)].escape_ascii();
-                let more = if token.len() > TOKEN_SHOWN { ".." } else { "" };
+                let shown = excerpt(token);
                 write!(
                     f,
-                    "line {line}: '{shown}{more}' is not bytes of two hexadecimal digits each"
+                    "line {line}: '{shown}' is not bytes of two hexadecimal digits each"
                 )
             }
             Fault::TooLong { most } => write!(f, "more than {most} bytes"),
@@ -65,18 +68,32 @@ impl fmt::Display for Fault {
     }
 }
 
+/// What a message shows of a faulty token: its start, and whether there is more.
+pub fn excerpt(token: &[u8]) -> String {
+    let shown = token[..token.len().min(TOKEN_SHOWN)].escape_ascii();
+    let more = if token.len() > TOKEN_SHOWN { ".." } else { "" };
+    format!("{shown}{more}")
+}
+
 /// The bytes that decide the plan of this name. If there is nothing to take, says why.
 pub fn plan(name: &OsStr) -> Option<Vec<u8>> {
-    read_or_say(name, Taken::First(DECIDING))
+    taken_or_say(name, read(name, Taken::First(DECIDING)))
 }
 
 /// The whole log of this name. If there is nothing to take, says why.
 pub fn log(name: &OsStr) -> Option<Vec<u8>> {
-    read_or_say(name, Taken::All(LONGEST_LOG))
+    taken_or_say(name, read(name, Taken::All(LONGEST_LOG)))
 }
 
-fn read_or_say(name: &OsStr, taken: Taken) -> Option<Vec<u8>> {
-    match read(name, taken) {
+/// The text of the whole schedule of this name. If there is nothing to take, says why.
+pub fn schedule(name: &OsStr) -> Option<Vec<u8>> {
+    let file = open(name).map_err(Fault::from);
+    let text = file.and_then(|file| bytes(file, Taken::All(LONGEST_SCHEDULE)));
+    taken_or_say(name, text)
+}
+
+fn taken_or_say(name: &OsStr, taken: Result<Vec<u8>, Fault>) -> Option<Vec<u8>> {
+    match taken {
         Ok(bytes) => Some(bytes),
         Err(fault) => {
             say(format_args!("{}: {fault}", shown(name)));

@@ -10,9 +10,11 @@ mod metres;
 mod output;
 mod program;
 mod replay;
+mod schedule;
 mod status;
 mod trimmed;
 mod widths;
+mod works;
 
 use std::env;
 use std::ffi::OsString;
@@ -42,6 +44,8 @@ enum Asked {
     Metres(OsString, Option<EdgeSet>),
     /// What a log, the second file, did to the room of a plan, the first.
     Replay(OsString, OsString),
+    /// When the room of a plan, the first file, is open and silent by a schedule, the second.
+    Works(OsString, OsString),
 }
 
 fn main() -> ExitCode {
@@ -80,11 +84,12 @@ fn run() -> io::Result<Status> {
         Ok(Asked::Widths(files)) => widths::run(&files),
         Ok(Asked::Metres(file, edges)) => metres::run(&file, edges),
         Ok(Asked::Replay(plan, log)) => replay::run(&plan, &log),
+        Ok(Asked::Works(plan, schedule)) => works::run(&plan, &schedule),
     }
 }
 
 /// The words that say what to do.
-const WORDS: [&str; 4] = ["trimmed", "widths", "metres", "replay"];
+const WORDS: [&str; 5] = ["trimmed", "widths", "metres", "replay", "works"];
 
 /// What the arguments ask for, or what is wrong with them. A word that says what to do stands first:
 /// anywhere else, and after `--`, it is a file's name.
@@ -107,6 +112,12 @@ fn asked(arguments: impl Iterator<Item = OsString>) -> Result<Asked, String> {
         return match &files(words)?[..] {
             [plan, log] => Ok(Asked::Replay(plan.clone(), log.clone())),
             _ => needs("PLAN and a LOG, and no other FILE"),
+        };
+    }
+    if word == "works" {
+        return match &files(words)?[..] {
+            [plan, schedule] => Ok(Asked::Works(plan.clone(), schedule.clone())),
+            _ => needs("PLAN and a SCHEDULE, and no other FILE"),
         };
     }
     let Some((file, others)) = words.split_first() else {

@@ -5,7 +5,7 @@ use std::collections::{BTreeMap, BTreeSet};
 use std::fmt::{Debug, Display};
 use std::str::FromStr;
 
-use crate::plan::{Verdict, LONGEST};
+use crate::plan::{Verdict, LONGEST, WEEK};
 use crate::refusal::Refusal;
 use crate::replay::{DOWN, UP};
 use crate::sets::NodeSet;
@@ -15,6 +15,9 @@ const HEADER: &str = include_str!("../../include/cutlist.h");
 const REFUSALS: &str = include_str!("../../crates/network/src/refusal.rt");
 const JUDGING: &str = include_str!("../../crates/connectivity/src/judging.rt");
 const REPLAY: &str = include_str!("../../crates/replay/src/lib.rt");
+const MAINTENANCE: &str = include_str!("../../crates/maintenance/src/lib.rt");
+const WINDOWS: &str = include_str!("../../crates/windows/src/lib.rt");
+const WINDOWS_SPECIFIED: &str = include_str!("../../crates/windows/specs/Windows.antt");
 const REFERENCE: &str = include_str!("../../rust/src/reference.rs");
 const READER_SPECIFIED: &str = include_str!("../../crates/format/specs/Format.antt");
 const RECORD_SPECIFIED: &str = include_str!("../../crates/network/specs/Record.antt");
@@ -204,6 +207,32 @@ fn commands_of_a_log_agree() {
             assert_eq!(stated, command, "{name}");
         }
     }
+}
+
+/// The minutes of a week, and the most windows of either kind; refusals 23 and 24 name them.
+#[test]
+fn weeks_agree() {
+    let week = size_of_the_header("CUTLIST_WEEK");
+    assert_eq!(usize::from(WEEK), week);
+    let openings = size_of_the_header("CUTLIST_MOST_OPENINGS");
+    let works = size_of_the_header("CUTLIST_MOST_WORKS");
+    for (text, before, after, size) in [
+        (WINDOWS, "const WEEK: u16 = ", ";", week),
+        (MAINTENANCE, "const MAX_OPENINGS: usize = ", ";", openings),
+        (MAINTENANCE, "const MAX_WORKS: usize = ", ";", works),
+        (WINDOWS_SPECIFIED, "\nweek = ", "\n", week),
+        (REFERENCE, "const WEEK: u16 = ", ";", week),
+        (REFERENCE, "const MOST_OPENINGS: usize = ", ";", openings),
+        (REFERENCE, "const MOST_WORKS: usize = ", ";", works),
+    ] {
+        let stated = between(text, before, after).replace('_', "");
+        assert_eq!(number::<usize>(&stated), size, "{before}");
+    }
+    let words = Refusal::TooManyWindows.to_string();
+    let most = format!("more than {openings} opening windows, or more than {works} works windows");
+    assert_eq!(words, most);
+    let words = Refusal::BadWindow.to_string().replace(',', "");
+    assert!(words.contains(&format!("above {week} ")), "{words}");
 }
 
 /// The most points, a bit for each of them in every set of points, and the words of refusal 4.

@@ -45,6 +45,11 @@
 //! let log = [DOWN, 3, DOWN, 4, UP, 3];
 //! assert_eq!(plan.replay(&log)?, [false, true, false]);
 //!
+//! // Open on Monday from 18:00 to 24:00; electricians book cable 3 from 19:00 to 21:00 and cable 4
+//! // from 20:00 to 22:00. For the hour in which both are out the room is silent.
+//! let works = [[1140, 1260, 3], [1200, 1320, 4]];
+//! assert_eq!(plan.silent_minutes(&[[1080, 1440]], &works)?, 60);
+//!
 //! // A plan travels as bytes, and bytes outside the rules are refused.
 //! let bytes = plan.encode()?;
 //! assert_eq!(Plan::decode(&bytes)?, plan);
@@ -66,7 +71,7 @@ mod sets;
 mod sys;
 
 pub use list::{ListError, Mincut, Mincuts};
-pub use plan::{EdgeError, EdgeFault, Plan, Relevant, Verdict};
+pub use plan::{EdgeError, EdgeFault, Plan, Relevant, Verdict, WEEK};
 pub use refusal::Refusal;
 pub use replay::{DOWN, UP};
 pub use sets::{EdgeSet, Members, NodeSet};

@@ -12,6 +12,9 @@ use crate::sys::{self, Record};
 /// Bytes in the longest plan.
 pub(crate) const LONGEST: usize = 518;
 
+/// Minutes of a week, of which 0 is the first.
+pub const WEEK: u16 = 10080;
+
 /// A plan without fault: points, one of them the server and one the room, and cables between them,
 /// of which some or all are measured.
 #[derive(Clone, Debug, PartialEq, Eq)]
@@ -324,6 +327,26 @@ impl Plan {
     pub fn replay_into(&self, log: &[u8], silent: &mut [u8]) -> Result<usize, Refusal> {
         let (number, count) = sys::replay(&self.0, log, silent);
         answer(number, count).and_then(|count| replay::whole(log, silent, count))
+    }
+
+    /// The minutes of a week in which the room is open and silent, while cables are booked out. An
+    /// opening window is its start and its end, a works window its start, its end and its cable. Both
+    /// times are minutes of the week, 0 to 10,079, and an end may be 10,080 ([`WEEK`](crate::WEEK)): a
+    /// window holds its start and not its end. Windows may overlap; one across the week's end is given
+    /// as two. The room is silent while the cables then out hold a minimal cut, which is while the
+    /// others have no route.
+    ///
+    /// More than 14 opening windows or 16 works windows are [`Refusal::TooManyWindows`]; then the first
+    /// faulty window decides, opening windows before works windows: [`Refusal::BadWindow`], and after
+    /// that in the same window [`Refusal::NoSuchEdge`].
+    pub fn silent_minutes(
+        &self,
+        openings: &[[u16; 2]],
+        works: &[[u16; 3]],
+    ) -> Result<u16, Refusal> {
+        let (number, minutes) =
+            sys::silent_minutes(&self.0, openings.as_flattened(), works.as_flattened());
+        answer(number, minutes)
     }
 
     /// How many of these sets of cables have width 0, 1 .. 64. The width of a set is the number of
@@ -856,6 +879,52 @@ mod tests {
             table[width] = count;
         }
         Ok(table)
+    }
+
+    /// Cables 3 and 4 of the bridge are a cut, and so are cables 0 and 1.
+    #[test]
+    fn silent_minutes_are_counted() {
+        let minutes = |openings: &[[u16; 2]], works: &[[u16; 3]]| {
+            let counted = bridge().silent_minutes(openings, works);
+            assert_eq!(measured_bridge().silent_minutes(openings, works), counted);
+            counted
+        };
+        let works = [[100, 200, 3], [150, 250, 4]];
+        assert_eq!(minutes(&[[0, WEEK]], &works), Ok(50));
+        assert_eq!(minutes(&[[0, 160], [190, 500]], &works), Ok(20));
+        // A minute counts once, and a cable is out once.
+        assert_eq!(minutes(&[[0, 160], [155, 170]], &works), Ok(20));
+        assert_eq!(minutes(&[[0, WEEK]], &[[5, 9, 3], [5, 9, 3]]), Ok(0));
+        assert_eq!(minutes(&[], &works), Ok(0));
+        assert_eq!(minutes(&[[0, WEEK]], &[]), Ok(0));
+        assert_eq!(minutes(&[[0, WEEK]; 14], &[[0, WEEK, 0]; 16]), Ok(0));
+        let none = Plan::new(2, 0, 1).expect("accepted");
+        assert_eq!(none.silent_minutes(&[[0, WEEK]], &[]), Ok(WEEK));
+    }
+
+    #[test]
+    fn faulty_windows_have_no_minutes() {
+        let refused = |openings: &[[u16; 2]], works: &[[u16; 3]]| {
+            let counted = bridge().silent_minutes(openings, works);
+            counted.expect_err("refused")
+        };
+        assert_eq!(refused(&[[0, 1]; 15], &[]), Refusal::TooManyWindows);
+        assert_eq!(
+            refused(&[[1, 1]], &[[0, 1, 0]; 17]),
+            Refusal::TooManyWindows
+        );
+        for [start, end] in [[5, 5], [6, 5], [5, WEEK + 1], [WEEK, 0], [0, 0]] {
+            assert_eq!(refused(&[[start, end]], &[]), Refusal::BadWindow);
+            assert_eq!(refused(&[], &[[start, end, 99]]), Refusal::BadWindow);
+        }
+        // No number of a cable is narrowed.
+        for cable in [5, 63, 64, 255, 256, 257, 65_535] {
+            assert_eq!(refused(&[], &[[0, 1, cable]]), Refusal::NoSuchEdge);
+        }
+        // The first faulty window decides, opening windows before works windows.
+        let absent = [[0, 1, 9], [1, 1, 0]];
+        assert_eq!(refused(&[], &absent), Refusal::NoSuchEdge);
+        assert_eq!(refused(&[[2, 1]], &absent), Refusal::BadWindow);
     }
 
     #[test]

@@ -64,8 +64,10 @@ refusals! {
     14 EdgeNotPresent "a given set or row holds a cable not present"
     15 BufferTooShort "the plan needs more bytes than were lent"
     16 BadEvent "an event with an unknown command, or half an event"
-    17 NoSuchEdge "an event of a cable not present"
+    17 NoSuchEdge "an event or a works window of a cable not present"
     18 TooManyEvents "more whole events than bytes lent"
+    23 TooManyWindows "more than 14 opening windows, or more than 16 works windows"
+    24 BadWindow "a window whose start is not below its end or whose end is above 10,080, or a piece of one"
     26 NotTrimmed "some point or present cable is not useful"
     28 BadLength "a length that is not of the cable just before it, or of 0 metres"
 }

@@ -121,6 +121,13 @@ on_a_record! {
         silent_length: usize,
         count: *mut usize
     );
+    fn cutlist_silent_minutes(
+        openings: *const u16,
+        openings_length: usize,
+        works: *const u16,
+        works_length: usize,
+        minutes: *mut u16
+    );
     fn cutlist_widths(cuts: *const u64, cuts_length: usize, table: *mut [u64; WIDTHS]);
 }
 
@@ -228,6 +235,23 @@ pub fn replay(r: &Record, log: &[u8], silent: &mut [u8]) -> (u8, usize) {
         )
     };
     (refusal, count)
+}
+
+/// The silent minutes of a week with these windows, number after number.
+pub fn silent_minutes(r: &Record, openings: &[u16], works: &[u16]) -> (u8, u16) {
+    let mut minutes = 0;
+    // SAFETY: each pointer is valid for its type and length, and no two overlap.
+    let refusal = unsafe {
+        cutlist_silent_minutes(
+            r,
+            openings.as_ptr(),
+            openings.len(),
+            works.as_ptr(),
+            works.len(),
+            &mut minutes,
+        )
+    };
+    (refusal, minutes)
 }
 
 /// The width table of a list.

@@ -2,19 +2,20 @@
 //! points and cables numbered anew for each call; then the cost of a row in short lists and long
 //! ones, the slowest calls found, the useful part, which each list begins with, and the judging of a
 //! minimal cut; then the test of trimmed plans beside their trimming; then link logs of ten million
-//! events, and width tables of a million rows, beside the same methods in ordinary Rust. All are
-//! measured in one run: medians over repeated calls in turn, the rows cleared before each list, and
-//! the bytes before each log. A ratio is the library's time over that of the column before it, of
-//! trimmed plans that of the first of two columns over that of the second.
+//! events, the silent minutes of weeks, and width tables of a million rows, beside the same methods in
+//! ordinary Rust. All are measured in one run: medians over repeated calls in turn, the rows cleared
+//! before each list, and the bytes before each log. A ratio is the library's time over that of the column
+//! before it, of trimmed plans that of the first of two columns over that of the second.
 //!
 //! cargo bench --offline
 //!
-//! The eleven-point hall alone, about a second; or trimmed plans alone; or logs alone; or width tables
-//! alone:
+//! The eleven-point hall alone, about a second; or trimmed plans alone; or logs alone; or weeks alone; or
+//! width tables alone:
 //!
 //! cargo bench --offline -- --eleven
 //! cargo bench --offline -- --trimmed
 //! cargo bench --offline -- --replay
+//! cargo bench --offline -- --works
 //! cargo bench --offline -- --widths
 //!
 //! With all or with the first, an earlier build of the library is measured in the same run if it is
@@ -53,9 +54,11 @@ use cutlist_tests::reference::{DOWN, UP};
 use cutlist_tests::rng::Rng;
 use cutlist_tests::sys::capi::{on_fields, Build};
 use cutlist_tests::timer::Timer;
+use cutlist_tests::weeks::Week;
 use cutlist_tests::{brute, ordinary, sides, sys};
 
-/// On the eleven-point hall and on logs the library may take so many times what ordinary Rust takes.
+/// On the eleven-point hall, on logs and on weeks the library may take so many times what ordinary Rust
+/// takes.
 const MOST_RATIO: f64 = 2.0;
 
 /// From a thousand rows to a million the dearest row may cost so many times the cheapest.
@@ -139,6 +142,7 @@ enum Asked {
     Eleven,
     Trimmed,
     Replay,
+    Works,
     Widths,
     Plans,
 }
@@ -159,6 +163,7 @@ impl Options {
                 "--eleven" => asked.replace(Asked::Eleven).is_some(),
                 "--trimmed" => asked.replace(Asked::Trimmed).is_some(),
                 "--replay" => asked.replace(Asked::Replay).is_some(),
+                "--works" => asked.replace(Asked::Works).is_some(),
                 "--widths" => asked.replace(Asked::Widths).is_some(),
                 "--plans" => asked.replace(Asked::Plans).is_some(),
                 "--before" => before.replace(arguments.next()?).is_some(),
@@ -899,6 +904,100 @@ fn replays() -> Vec<(&'static str, f64)> {
     slow
 }
 
+/// The calls of each on a week.
+const WEEKS: usize = 1_001;
+
+/// The weeks of a hall, each under its name: one that is closed, which takes no spread; seven evenings
+/// with three works; and the most windows, at 60 different times, of which the last to open holds all
+/// others, so that each stretch but the first and the last takes a spread. The cables are the hall's last
+/// ones, so that most spreads go far.
+fn weeks(hall: &Record) -> [(&'static str, Week); 3] {
+    let cables: Vec<u16> = hall.edges().map(|edge| edge as u16).collect();
+    let week = |openings: &[[u16; 2]], booked: &[[u16; 2]]| {
+        let works = booked.iter().zip(cables.iter().rev().cycle());
+        Week {
+            openings: openings.as_flattened().to_vec(),
+            works: works
+                .flat_map(|(&[start, end], &cable)| [start, end, cable])
+                .collect(),
+        }
+    };
+    let evening = |day: u16| [1_440 * day + 1_080, 1_440 * day + 1_440];
+    let evenings: Vec<[u16; 2]> = (0..7).map(evening).collect();
+    // On Tuesday, on Thursday and on Saturday, each time into the evening.
+    let booked = [[2_340, 2_580], [5_220, 5_460], [8_100, 8_340]];
+    let time = |place: u16| 160 * (place + 1);
+    let mut openings: Vec<[u16; 2]> = (0..13)
+        .map(|k| [time(2 * k + 1), time(2 * k + 2)])
+        .collect();
+    openings.push([time(0), time(59)]);
+    let most_booked: Vec<[u16; 2]> = (27..43).map(|k| [time(k), time(k + 16)]).collect();
+    [
+        ("closed", week(&[], &booked)),
+        ("evenings", week(&evenings, &booked)),
+        ("the most", week(&openings, &most_booked)),
+    ]
+}
+
+/// The table of weeks: how many windows there are, how many minutes are silent, the library's time and
+/// that of ordinary Rust. Gives the weeks on which the library takes too many times what ordinary Rust
+/// takes, and the ratio.
+fn works() -> Vec<(String, f64)> {
+    let names = &LISTERS[..2];
+    println!(
+        "\n{:<32} {:>6} {:>6} {:>6} {:>6} {:>6} {:>5}{}",
+        "silent minutes of a week",
+        "points",
+        "cables",
+        "opened",
+        "booked",
+        "silent",
+        "calls",
+        headings(names, WIDTH)
+    );
+    let units = units(names, "ns/call", WIDTH);
+    println!("{:<73}{}", "", units.trim_end());
+
+    let mut slow = Vec::new();
+    for (hall_name, hall) in [
+        ("bridge", halls::bridge()),
+        ("every pair of 11", halls::complete(11)),
+        ("grid of 4 by 8", halls::grid(4, 8)),
+        ("line of 64", halls::line(64, 1)),
+        ("circle of 64", halls::circle(64, &[1])),
+    ] {
+        for (week_name, Week { openings, works }) in weeks(&hall) {
+            let name = format!("{hall_name}, {week_name}");
+            let mut times = [Vec::new(), Vec::new()];
+            let mut silent = 0;
+            for _ in 0..WEEKS {
+                let (answer, time) =
+                    Timer::Clock.time(|| sys::silent_minutes_bare(&hall, &openings, &works));
+                times[0].push(time);
+                let (plain, time) =
+                    Timer::Clock.time(|| ordinary::silent_minutes(&hall, &openings, &works));
+                times[1].push(time);
+                assert_eq!((0, plain), (answer.0, Ok(answer.1)), "{name}");
+                silent = answer.1;
+            }
+            let times = times.map(median);
+            println!(
+                "{name:<32} {:>6} {:>6} {:>6} {:>6} {silent:>6} {WEEKS:>5}{}",
+                hall.nodes,
+                hall.present.count_ones(),
+                openings.len() / 2,
+                works.len() / 3,
+                figures(&times, 1, WIDTH)
+            );
+            let ratio = ratio(times[0], times[1]);
+            if ratio > MOST_RATIO {
+                slow.push((name, ratio));
+            }
+        }
+    }
+    slow
+}
+
 /// Rows in each list that is counted by width but the empty ones, and the calls of each.
 const ROWS: usize = 1 << 20;
 const COUNTS: usize = 51;
@@ -1037,7 +1136,7 @@ fn main() -> ExitCode {
     let arguments = env::args().skip(1).filter(|argument| argument != "--bench");
     let Some(options) = Options::of(arguments) else {
         eprintln!(
-            "cargo bench --offline [-- [--eleven] [--before LIB.so] | [--widths] [--singly LIB.so] | --trimmed | --replay | --plans]"
+            "cargo bench --offline [-- [--eleven] [--before LIB.so] | [--widths] [--singly LIB.so] | --trimmed | --replay | --works | --plans]"
         );
         return ExitCode::from(2);
     };
@@ -1094,6 +1193,13 @@ fn main() -> ExitCode {
         exceeded.extend(replays().into_iter().map(|(name, ratio)| {
             format!(
                 "On the log '{name}' the library takes {ratio:.2} times what ordinary Rust takes, more than {MOST_RATIO}."
+            )
+        }));
+    }
+    if all || asked == Asked::Works {
+        exceeded.extend(works().into_iter().map(|(name, ratio)| {
+            format!(
+                "On the week '{name}' the library takes {ratio:.2} times what ordinary Rust takes, more than {MOST_RATIO}."
             )
         }));
     }

@@ -98,6 +98,27 @@ pub fn holds_one(mincuts: &[u64], set: u64) -> bool {
     mincuts.iter().any(|cut| cut & !set == 0)
 }
 
+/// Routes and minimal cuts of a small plan, each enumerated once.
+pub struct Known {
+    minpaths: Vec<u64>,
+    mincuts: Vec<u64>,
+}
+
+impl Known {
+    pub fn of(record: &Record) -> Known {
+        let minpaths = minpaths(record);
+        let mincuts = transversals(&minpaths);
+        Known { minpaths, mincuts }
+    }
+
+    /// Whether no route is left among the cables still up: that is, some minimal cut is wholly down.
+    pub fn is_silent(&self, down: u64) -> bool {
+        let silent = is_cut(&self.minpaths, down);
+        assert_eq!(holds_one(&self.mincuts, down), silent, "{down:#x}");
+        silent
+    }
+}
+
 /// Every set of present cables, rising, with its verdict: all its proper subsets were looked at.
 pub fn verdicts(record: &Record) -> Vec<(u64, Verdict)> {
     let minpaths = minpaths(record);

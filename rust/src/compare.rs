@@ -143,6 +143,39 @@ pub fn replay(
     (number, written)
 }
 
+/// Counts the silent minutes of a week; `is_cut` tells of a set of present cables whether no route is
+/// left without it. Ordinary Rust counts the same. Gives the refusal number and the minutes.
+pub fn silent_minutes(
+    record: &Record,
+    openings: &[u16],
+    works: &[u16],
+    is_cut: impl Fn(u64) -> bool,
+) -> (u8, u16) {
+    let expected = reference::silent_minutes(record, openings, works);
+    let number = reference::number(&expected);
+    let outs = expected.unwrap_or_default();
+    // Minutes in a row with the same cables out are judged together.
+    let alike = outs.chunk_by(|one, next| one == next);
+    let silent = alike.filter(|minutes| is_cut(minutes[0]));
+    let minutes = silent.map(<[u64]>::len).sum::<usize>() as u16;
+
+    let answer = sys::silent_minutes(record, openings, works);
+    assert_eq!(
+        answer,
+        (number, minutes),
+        "openings {openings:?}, works {works:?}, record {record:?}"
+    );
+    let plain = match ordinary::silent_minutes(record, openings, works) {
+        Ok(minutes) => (0, minutes),
+        Err(refusal) => (refusal, 0),
+    };
+    assert_eq!(
+        plain, answer,
+        "openings {openings:?}, works {works:?}, record {record:?}"
+    );
+    answer
+}
+
 /// Lists a record over what the rows held; if the record has no fault, `rows` is the whole list, or
 /// `None` for a list longer than the rows lent. What the rows hold afterwards is fixed to the last
 /// word. Gives the refusal number.

@@ -53,7 +53,7 @@ impl<T: Clone> Guarded<T> {
     }
 }
 
-/// What lent rows are made of: the bytes of a plan, cuts or near sides.
+/// What lent rows are made of: the bytes of a plan, the numbers of windows, cuts or near sides.
 pub trait Word: Copy + PartialEq {
     /// A guard word, by its place below `GUARD`: neighbours differ, and none is zero.
     fn guard(place: usize) -> Self;
@@ -62,6 +62,12 @@ pub trait Word: Copy + PartialEq {
 impl Word for u8 {
     fn guard(place: usize) -> u8 {
         FENCE[place]
+    }
+}
+
+impl Word for u16 {
+    fn guard(place: usize) -> u16 {
+        (place as u16 + 1).wrapping_mul(0x9E37)
     }
 }
 

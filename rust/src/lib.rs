@@ -16,6 +16,7 @@
 //! - `lengths`: the same for the metres of cables
 //! - `logs`: random link logs, and damage to them
 //! - `lists`: random lists of rows, and damage to them
+//! - `weeks`: random windows of a week, and damage to them
 //! - `tally`: how often each refusal number and each verdict occurred
 //! - `timer`: what tells the time of a call
 //! - `fuzz`: arbitrary bytes as questions for every function
@@ -38,3 +39,4 @@ pub mod sides;
 pub mod sys;
 pub mod tally;
 pub mod timer;
+pub mod weeks;

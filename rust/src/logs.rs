@@ -44,9 +44,9 @@ pub fn log_of(rng: &mut Rng, cables: u64, length: usize) -> Vec<u8> {
     log
 }
 
-/// The cables that a log speaks of: all that are present, or fewer, which are down together more
-/// often.
-fn spoken_of(rng: &mut Rng, record: &Record) -> u64 {
+/// The cables that a log speaks of, or a week: all that are present, or fewer, which are down together
+/// more often; any if none is present.
+pub fn spoken_of(rng: &mut Rng, record: &Record) -> u64 {
     let fewer = match rng.once_in(2) {
         true => record.present,
         false => record.present & rng.draw(),

@@ -1,4 +1,7 @@
-//! The reader, the record test, the writer, and what a link log says, straight from the paper.
+//! The reader, the record test, the writer, and what a link log and the windows of a week say, straight
+//! from the paper.
+
+use std::ops::Range;
 
 use crate::record::{Record, MOST_NODES, SLOTS};
 use Refusal::*;
@@ -12,6 +15,13 @@ pub const DECIDING: usize = 521;
 /// The commands of a link log.
 pub const DOWN: u8 = 0x44;
 pub const UP: u8 = 0x55;
+
+/// The minutes of a week.
+pub const WEEK: u16 = 10_080;
+
+/// The most opening windows and the most works windows.
+pub const MOST_OPENINGS: usize = 14;
+pub const MOST_WORKS: usize = 16;
 
 /// The refusals, by the library's names and the paper's numbers.
 #[derive(Clone, Copy, Debug, PartialEq, Eq)]
@@ -33,6 +43,8 @@ pub enum Refusal {
     BadEvent = 16,
     NoSuchEdge = 17,
     TooManyEvents = 18,
+    TooManyWindows = 23,
+    BadWindow = 24,
     NotTrimmed = 26,
     BadLength = 28,
 }
@@ -145,6 +157,56 @@ pub fn replay(record: &Record, log: &[u8], room: usize) -> Result<Vec<u64>, Refu
         after.push(down);
     }
     Ok(after)
+}
+
+/// The sets of cables that are out in each open minute of a week, one minute after the other.
+pub fn silent_minutes(
+    record: &Record,
+    openings: &[u16],
+    works: &[u16],
+) -> Result<Vec<u64>, Refusal> {
+    fault(record)?;
+    let fit = openings.chunks(2).len() <= MOST_OPENINGS && works.chunks(3).len() <= MOST_WORKS;
+    refuse_unless(fit, TooManyWindows)?;
+    let mut open = open_minutes(openings)?.into_iter();
+    let mut out = cables_out(record, works)?;
+    out.retain(|_| open.next() == Some(true));
+    Ok(out)
+}
+
+/// Which minutes of the week are open.
+pub fn open_minutes(openings: &[u16]) -> Result<Vec<bool>, Refusal> {
+    let mut open = vec![false; WEEK.into()];
+    for window in openings.chunks(2) {
+        let &[start, end] = window else {
+            return Err(BadWindow);
+        };
+        open[minutes(start, end)?].fill(true);
+    }
+    Ok(open)
+}
+
+/// The set of cables that are out in each minute of the week.
+pub fn cables_out(record: &Record, works: &[u16]) -> Result<Vec<u64>, Refusal> {
+    let mut out = vec![0; WEEK.into()];
+    for window in works.chunks(3) {
+        let &[start, end, edge] = window else {
+            return Err(BadWindow);
+        };
+        let minutes = minutes(start, end)?;
+        let edge = usize::from(edge);
+        refuse_unless(edge < SLOTS && record.holds(edge), NoSuchEdge)?;
+        for out in &mut out[minutes] {
+            *out |= 1 << edge;
+        }
+    }
+    Ok(out)
+}
+
+/// The minutes of a window, which holds its start and not its end.
+fn minutes(start: u16, end: u16) -> Result<Range<usize>, Refusal> {
+    refuse_unless(start < end && end <= WEEK, BadWindow)?;
+    Ok(start.into()..end.into())
 }
 
 /// The part of the plan that is still to be read.

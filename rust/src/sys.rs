@@ -151,6 +151,13 @@ pub mod capi {
             silent_length: usize,
             count: *mut usize
         );
+        fn cutlist_silent_minutes(
+            openings: *const u16,
+            openings_length: usize,
+            works: *const u16,
+            works_length: usize,
+            minutes: *mut u16
+        );
         fn cutlist_widths(cuts: *const u64, rows: usize, table: *mut Widths);
     }
 }
@@ -430,6 +437,48 @@ pub fn replay_bare(record: &Record, log: &[u8], silent: &mut [u8]) -> (u8, usize
         )
     };
     (refusal, count)
+}
+
+/// Counts the silent minutes of a week: the refusal number and the minutes.
+pub fn silent_minutes(record: &Record, openings: &[u16], works: &[u16]) -> (u8, u16) {
+    let mut lent_openings = Rows::new(openings);
+    let mut lent_works = Rows::new(works);
+    let mut minutes = Guarded::new(u16::from_ne_bytes([STALE; 2]));
+
+    // SAFETY: each pointer is valid for its type and length, and no two overlap.
+    let refusal = on_a_copy(record, |r| unsafe {
+        capi::cutlist_silent_minutes(
+            r,
+            lent_openings.place(),
+            openings.len(),
+            lent_works.place(),
+            works.len(),
+            minutes.place(),
+        )
+    });
+
+    assert!(
+        lent_openings.take() == openings && lent_works.take() == works,
+        "a call wrote into the windows"
+    );
+    (refusal, minutes.take())
+}
+
+/// The same straight on the windows, with nothing around the call: for measuring.
+pub fn silent_minutes_bare(record: &Record, openings: &[u16], works: &[u16]) -> (u8, u16) {
+    let mut minutes = 0;
+    // SAFETY: each pointer is valid for its type and length, and no two overlap.
+    let refusal = unsafe {
+        capi::cutlist_silent_minutes(
+            record,
+            openings.as_ptr(),
+            openings.len(),
+            works.as_ptr(),
+            works.len(),
+            &mut minutes,
+        )
+    };
+    (refusal, minutes)
 }
 
 /// The width table of a list: the refusal number and the table.

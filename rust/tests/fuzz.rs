@@ -9,7 +9,9 @@ use std::process::Command;
 
 use cutlist_tests::fuzz::case::{self, Case, Size, FIELDS, FITTED, HEAD, RAW};
 use cutlist_tests::fuzz::counts::{Counts, FAR};
-use cutlist_tests::fuzz::digest::{digest, replay_digest, trimmed_digest, widths_digest};
+use cutlist_tests::fuzz::digest::{
+    digest, replay_digest, trimmed_digest, widths_digest, works_digest,
+};
 use cutlist_tests::fuzz::search::{panic_of, search};
 use cutlist_tests::fuzz::shrinking::shrink;
 use cutlist_tests::fuzz::{making, questions};
@@ -19,6 +21,7 @@ use cutlist_tests::plans;
 use cutlist_tests::record::{Record, MOST_NODES};
 use cutlist_tests::reference::DECIDING;
 use cutlist_tests::rng::Rng;
+use cutlist_tests::weeks::Week;
 use cutlist_tests::{brute, reference, sides, sys};
 
 fn cases(seed: u64, count: u64) -> impl Iterator<Item = (u64, Vec<u8>)> {
@@ -169,6 +172,35 @@ fn a_wrong_log_is_found_and_shrunk() {
     assert!(silent.len() <= 4, "{:02X?}", case.log);
 }
 
+/// The silent minutes of the whole windows of a case's week, and those without its works; none on
+/// refusal.
+fn minutes(case: &Case) -> [u16; 2] {
+    let Week { openings, works } = case.week.whole();
+    [&works[..], &[]].map(|works| sys::silent_minutes(&case.record, &openings, works).1)
+}
+
+/// A wrong claim about weeks: that no works silence a room.
+fn ask_with_a_wrong_week(bytes: &[u8], counts: &mut Counts) {
+    questions::ask(bytes, counts);
+    let [with, without] = minutes(&Case::of(bytes));
+    assert!(with <= without, "works silence a room");
+}
+
+#[test]
+fn a_wrong_week_is_found_and_shrunk() {
+    let found = search(cases(96, 1_000), ask_with_a_wrong_week).expect_err("a silenced room");
+    assert_eq!(found.message, "works silence a room");
+    let wrong =
+        |bytes: &[u8]| panic_of(|| ask_with_a_wrong_week(bytes, &mut Counts::default())).is_some();
+    let shrunk = shrink(&found.bytes, 10_000, wrong);
+    assert!(wrong(&shrunk));
+    // Nothing is left but one cable, one opening window and one works window.
+    let case = Case::of(&shrunk);
+    assert_eq!(case.record.present.count_ones(), 1);
+    let Week { openings, works } = &case.week;
+    assert_eq!((openings.len(), works.len()), (2, 3), "{:?}", case.week);
+}
+
 /// A wrong claim about widths: that each cable counts.
 fn ask_with_a_wrong_width(bytes: &[u8], counts: &mut Counts) {
     questions::ask(bytes, counts);
@@ -243,6 +275,7 @@ fn every_byte_string_is_a_case() {
     assert!(counts.list.total() >= counts.cases);
     assert_eq!(counts.list_trimmed.total(), counts.list.total());
     assert!(counts.replay.total() >= 3 * counts.cases);
+    assert!(counts.silent_minutes.total() >= 3 * counts.cases);
     assert!(counts.widths.total() >= 3 * counts.cases);
 }
 
@@ -327,6 +360,31 @@ fn the_digest_of_logs() {
     assert_eq!(digest_of(&measured, 100), digest_of(&bridge, 100));
 }
 
+/// The silent minutes of weeks have a number of their own, which plan and windows change and metres do
+/// not.
+#[test]
+fn the_digest_of_weeks() {
+    let bridge = halls::bridge();
+    let digest_of = |hall: &Record, openings: u8, works: u8| {
+        let mut bytes = with_head(FITTED, &plans::bytes(hall));
+        bytes[15..17].copy_from_slice(&[openings, works]);
+        works_digest([bytes])
+    };
+    let apart = bridge.clone().without(0b11);
+    let mut numbers = [
+        digest_of(&bridge, 28, 48),
+        digest_of(&bridge, 28, 47),
+        digest_of(&bridge, 29, 48),
+        digest_of(&bridge, 0, 0),
+        digest_of(&apart, 28, 48),
+        digest_of(&apart, 26, 48),
+    ];
+    numbers.sort_unstable();
+    assert!(numbers.windows(2).all(|pair| pair[0] != pair[1]));
+    let measured = bridge.clone().with_metres(4, 300);
+    assert_eq!(digest_of(&measured, 28, 48), digest_of(&bridge, 28, 48));
+}
+
 /// The width tables have a number of their own.
 #[test]
 fn the_digest_of_widths() {
@@ -394,6 +452,7 @@ fn cases_of_every_kind_are_made() {
         let accepted = refusal == 0;
         let fit = reference::fault(record).is_ok();
         let far = fit && sides::distance(record) >= Some(FAR);
+        let (openings, works) = (case.week.openings.len(), case.week.works.len());
         let steps = |edge: usize| record.first[edge].abs_diff(record.second[edge]);
         for (kind, met) in [
             ("no bytes", case.plan.is_empty()),
@@ -455,6 +514,25 @@ fn cases_of_every_kind_are_made() {
             ),
             ("half an event", fit && case.log.len() % 2 == 1),
             ("no event", case.log.len() < 2),
+            (
+                "a week with the most windows of both kinds",
+                fit && openings >= 28 && works >= 48,
+            ),
+            ("too many opening windows", openings > 28),
+            ("too many works windows", works > 48),
+            ("a piece of an opening window", openings % 2 == 1),
+            ("one number of a works window", works % 3 == 1),
+            ("two numbers of a works window", works % 3 == 2),
+            ("no opening window", openings < 2),
+            ("no works window", works < 3),
+            (
+                "works that silence the room",
+                fit && minutes(&case)[0] > minutes(&case)[1],
+            ),
+            (
+                "works that do not, in a room that is heard",
+                fit && works >= 3 && openings >= 2 && minutes(&case) == [0, 0],
+            ),
             ("exactly the bytes needed", case.buffer == Size::Needed(0)),
             ("one byte less", case.buffer == Size::Needed(-1)),
         ] {
@@ -513,6 +591,19 @@ fn settings_mean_what_they_say() {
     assert_eq!(Case::of(&bytes).log, log[..39]);
     bytes[15] ^= 1;
     assert_ne!(Case::of(&bytes).log, log[..39]);
+    // Its second byte and its third are the numbers of openings and of works, and those above say what
+    // stands in them.
+    bytes[15..17].copy_from_slice(&[31, 52]);
+    let week = Case::of(&bytes).week;
+    assert_eq!((week.openings.len(), week.works.len()), (31, 52));
+    let whole = week.whole();
+    assert_eq!((whole.openings.len(), whole.works.len()), (28, 48));
+    let outs = reference::silent_minutes(&halls::bridge(), &whole.openings, &whole.works);
+    assert!(outs.is_ok(), "{whole:?}");
+    bytes[15..17].copy_from_slice(&[32 + 28, 53 + 48]);
+    assert_eq!(Case::of(&bytes).week, whole);
+    bytes[17] ^= 1;
+    assert_ne!(Case::of(&bytes).week, whole);
 }
 
 /// Any bytes make a fit record, and a plan without fault makes its own; any bytes are a raw record.
@@ -600,6 +691,11 @@ fn the_command() {
     assert_eq!((code, text), (Some(0), format!("{replay:016x}\n")));
     assert_ne!(replay, number);
 
+    let (code, text) = run(&["--digest", "--works", "--seed", "88", "--cases", "7"]);
+    let works = works_digest(cases(88, 7).map(|(_, bytes)| bytes));
+    assert_eq!((code, text), (Some(0), format!("{works:016x}\n")));
+    assert_ne!(works, number);
+
     let (code, text) = run(&["--digest", "--widths", "--seed", "88", "--cases", "7"]);
     let widths = widths_digest(cases(88, 7).map(|(_, bytes)| bytes));
     assert_eq!((code, text), (Some(0), format!("{widths:016x}\n")));
@@ -616,8 +712,12 @@ fn the_command() {
         &["--cases"],
         &["--trimmed"],
         &["--replay"],
+        &["--works"],
         &["--widths"],
         &["--digest", "--trimmed", "--replay"],
+        &["--digest", "--trimmed", "--works"],
+        &["--digest", "--replay", "--works"],
+        &["--digest", "--works", "--widths"],
         &["--digest", "--trimmed", "--widths"],
         &["--digest", "--replay", "--widths"],
         &["--without-loops"],

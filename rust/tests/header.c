@@ -29,6 +29,11 @@ static const uint8_t link_log[10] = {
 };
 static const uint8_t silent_after[5] = {0, 1, 1, 0, 9};
 
+/* Cables 0 and 1 are out from 120 to 150, and the room is open; and works of a cable that the bridge has not. */
+static const uint16_t openings[4] = {100, 200, 110, CUTLIST_WEEK};
+static const uint16_t works[9] = {0, 150, 0, 120, 200, 1, 7, 8, 256};
+static const uint16_t windows[2 * CUTLIST_MOST_OPENINGS + 1] = {0};
+
 int main(void)
 {
     static const uint64_t cuts_listed[5] = {3, 14, 21, 24, 7};
@@ -36,6 +41,7 @@ int main(void)
     static const uint64_t rows[3] = {33, 3, 32};
     struct cutlist_plan plan, zero;
     uint8_t bytes[27], silent[5], verdict;
+    uint16_t minutes;
     uint32_t total;
     uint64_t cuts[5] = {7, 7, 7, 7, 7}, edges;
     uint64_t sides[5] = {9, 9, 9, 9, 9}, nodes;
@@ -116,6 +122,21 @@ int main(void)
     CHECK(cutlist_plan_replay(&plan, link_log, 8, silent, 5, &count) == CUTLIST_ACCEPTED && count == 4);
     CHECK(memcmp(silent, silent_after, sizeof silent) == 0);
     CHECK(cutlist_plan_replay(&plan, link_log, 0, silent, 0, &count) == CUTLIST_ACCEPTED && count == 0);
+
+    /* Works: cables 0 and 1 are out together for half an hour, and the room is open then. */
+    minutes = 9;
+    CHECK(cutlist_plan_silent_minutes(&plan, openings, 4, works, 6, &minutes) == CUTLIST_ACCEPTED && minutes == 30);
+    CHECK(cutlist_plan_silent_minutes(&plan, openings, 2, works, 3, &minutes) == CUTLIST_ACCEPTED && minutes == 0);
+    minutes = 9;
+    CHECK(cutlist_plan_silent_minutes(&plan, openings, 0, works, 6, &minutes) == CUTLIST_ACCEPTED && minutes == 0);
+    minutes = 9;
+    CHECK(cutlist_plan_silent_minutes(&plan, openings, 4, works, 9, &minutes) == CUTLIST_NO_SUCH_EDGE && minutes == 0);
+    minutes = 9;
+    CHECK(cutlist_plan_silent_minutes(&plan, openings, 4, works, 8, &minutes) == CUTLIST_BAD_WINDOW && minutes == 0);
+    minutes = 9;
+    CHECK(cutlist_plan_silent_minutes(&plan, openings, 3, works, 9, &minutes) == CUTLIST_BAD_WINDOW && minutes == 0);
+    minutes = 9;
+    CHECK(cutlist_plan_silent_minutes(&plan, windows, 29, works, 9, &minutes) == CUTLIST_TOO_MANY_WINDOWS && minutes == 0);
 
     /* Lengths: in the struct, in bytes, and of sets. */
     plan.metres[0] = 7;

@@ -19,6 +19,7 @@ use cutlist_tests::sides;
 use cutlist_tests::sys;
 use cutlist_tests::sys::capi::{cutlist_decode, on_fields};
 use cutlist_tests::tally::Tally;
+use cutlist_tests::weeks::{self, Week};
 
 unsafe extern "C" {
     fn mmap(
@@ -242,6 +243,28 @@ fn assert_same_replay(record: &Record, arrays: &Arrays, log: &[u8], at: At) -> V
     numbers
 }
 
+/// The silent minutes of a week are what they are elsewhere. Gives the refusal number.
+fn assert_same_minutes(record: &Record, arrays: &Arrays, week: &Week, at: At) -> u8 {
+    let Week { openings, works } = week;
+    let (lent_openings, lent_works) = (Lent::new(openings, at), Lent::new(works, at));
+    let minutes = Lent::new(&[7u16], at);
+    let refusal = call!(
+        cutlist_silent_minutes,
+        record,
+        arrays,
+        lent_openings.place,
+        openings.len(),
+        lent_works.place,
+        works.len(),
+        minutes.place
+    );
+    let answer = sys::silent_minutes(record, openings, works);
+    assert_eq!((refusal, minutes.values()[0]), answer, "{record:?}");
+    assert_eq!(lent_openings.values(), openings);
+    assert_eq!(lent_works.values(), works);
+    refusal
+}
+
 /// Every call on the record, on its bytes and on its list gives what it gives elsewhere.
 fn assert_same(record: &Record, set: u64, at: At) -> u8 {
     let arrays = Arrays::of(record, at);
@@ -272,6 +295,8 @@ fn assert_same(record: &Record, set: u64, at: At) -> u8 {
     let length = rng.below(200);
     let log = logs::log(&mut rng, record, length);
     assert_same_replay(record, &arrays, &log, at);
+    let week = weeks::fit(&mut rng, record);
+    assert_same_minutes(record, &arrays, &week, at);
 
     let count = Lent::new(&[7usize], at);
     let mut plan = [7; 600];
@@ -419,4 +444,36 @@ fn no_log_is_looked_past() {
     }
     tally.assert_only(&[0, 16, 17, 18]);
     tally.assert_each(&[0, 16, 17, 18], 200);
+}
+
+/// Where the last page ends: weeks of every length, from no number of either kind to more than fit, whole
+/// and damaged.
+#[test]
+fn no_window_is_looked_past() {
+    let mut rng = Rng::new(115);
+    let mut tally = Tally::default();
+    for record in logs::records(&mut rng) {
+        for at in [At::Start, At::End] {
+            let arrays = Arrays::of(&record, at);
+            let longest = weeks::week(&mut rng, &record, 31, 52);
+            let beginnings = (0..=31).flat_map(|openings| {
+                let works = [0, 3, 4, 5, 46, 47, 48, 49, 52];
+                works.map(|works| (openings, works))
+            });
+            for (openings, works) in beginnings.chain((0..=52).map(|works| (28, works))) {
+                let week = Week {
+                    openings: longest.openings[..openings].to_vec(),
+                    works: longest.works[..works].to_vec(),
+                };
+                tally.count(assert_same_minutes(&record, &arrays, &week, at));
+            }
+            for _ in 0..100 {
+                let mut damaged = longest.whole();
+                weeks::damage(&mut rng, &record, &mut damaged);
+                tally.count(assert_same_minutes(&record, &arrays, &damaged, at));
+            }
+        }
+    }
+    tally.assert_only(&[0, 17, 23, 24]);
+    tally.assert_each(&[0, 17, 23, 24], 200);
 }

@@ -2,6 +2,7 @@
 
 use std::iter;
 
+use cutlist_tests::brute::Known;
 use cutlist_tests::halls;
 use cutlist_tests::lengths;
 use cutlist_tests::logs;
@@ -14,27 +15,6 @@ use cutlist_tests::{brute, compare, ordinary, reference, sides, sys};
 
 /// The refusals of a log, in the order in which they are looked for.
 const OF_LOGS: [u8; 3] = [18, 16, 17];
-
-/// Routes and minimal cuts of a small plan, each enumerated once.
-struct Known {
-    minpaths: Vec<u64>,
-    mincuts: Vec<u64>,
-}
-
-impl Known {
-    fn of(record: &Record) -> Known {
-        let minpaths = brute::minpaths(record);
-        let mincuts = brute::transversals(&minpaths);
-        Known { minpaths, mincuts }
-    }
-
-    /// Whether no route is left among the cables still up: that is, some minimal cut is wholly down.
-    fn is_silent(&self, down: u64) -> bool {
-        let silent = brute::is_cut(&self.minpaths, down);
-        assert_eq!(brute::holds_one(&self.mincuts, down), silent, "{down:#x}");
-        silent
-    }
-}
 
 /// The answers with lent bytes, which hold anything, from one less than there are whole events to two
 /// more.

@@ -28,6 +28,7 @@ use cutlist_tests::rng::Rng;
 use cutlist_tests::sides;
 use cutlist_tests::sys::{self, capi, ListCall};
 use cutlist_tests::tally::Tally;
+use cutlist_tests::weeks::{self, Week};
 
 /// Stacks are painted with this.
 const PAINT: u64 = 0xA5C3_96E1_5A3C_691E;
@@ -107,6 +108,13 @@ fn replay(r: &Record, log: &[u8], silent: &mut [u8]) -> (usize, u8) {
     (stack, refusal)
 }
 
+/// The stack of counting the silent minutes of a week, and its refusal number.
+fn silent_minutes(r: &Record, week: &Week) -> (usize, u8) {
+    let mut refusal = 0;
+    let stack = stack_of(|| refusal = sys::silent_minutes_bare(r, &week.openings, &week.works).0);
+    (stack, refusal)
+}
+
 /// The stack of the width table of a list, and its refusal number.
 fn widths(r: &Record, cuts: &[u64]) -> (usize, u8) {
     let (mut refusal, mut table) = (0, [0; 65]);
@@ -124,6 +132,7 @@ fn others(r: &Record) -> usize {
     let mut read = Record::default();
     let mut silent = [0; 40];
     let log = logs::log(&mut Rng::new(r.present), r, 80);
+    let week = weeks::week(&mut Rng::new(r.present), r, 28, 48);
     // SAFETY: each pointer is valid for its type and length, and no two overlap.
     let stacks = unsafe {
         [
@@ -146,9 +155,10 @@ fn others(r: &Record) -> usize {
                 sys::decode_bare(&plan[..count], &mut read);
             }),
             replay(r, &log, &mut silent).0,
+            silent_minutes(r, &week).0,
         ]
     };
-    stacks.into_iter().max().expect("seven calls")
+    stacks.into_iter().max().expect("eight calls")
 }
 
 /// Halls of every kind: deep ones, wide ones, one without a route, one with every cable.
@@ -268,6 +278,27 @@ fn a_long_log_takes_no_more_stack_than_a_short_one() {
         let (stack, refusal) = replay(&hall, &log[..log.len() - 1], &mut silent);
         assert_eq!(refusal, 16);
         assert!(stack <= most, "{stack} bytes, not {most}");
+    }
+}
+
+/// However many windows a week has, and wherever it is faulty, it takes no more stack than one of each
+/// kind.
+#[test]
+fn many_windows_take_no_more_stack_than_one_of_each_kind() {
+    let mut rng = Rng::new(74);
+    for hall in [halls::bridge(), halls::line(64, 1), halls::complete(11)] {
+        let one = Week {
+            openings: vec![0, 10],
+            works: vec![0, 9, 0],
+        };
+        let (most, refusal) = silent_minutes(&hall, &one);
+        assert_eq!(refusal, 0);
+        for (openings, works, number) in [(28, 48, 0), (0, 0, 0), (28, 47, 24), (30, 51, 23)] {
+            let week = weeks::week(&mut rng, &hall, openings, works);
+            let (stack, refusal) = silent_minutes(&hall, &week);
+            assert_eq!(refusal, number);
+            assert!(stack <= most, "{stack} bytes, not {most}");
+        }
     }
 }
 

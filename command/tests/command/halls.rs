@@ -148,6 +148,28 @@ fn every_hall_has_a_state_before_any_event() {
     assert!(silent >= 2, "{silent}");
 }
 
+/// Without works a hall is silent whenever it is open if its list is the one empty cut, else never.
+#[test]
+fn every_hall_has_a_week_without_works() {
+    let folder = Folder::new();
+    let schedule = &folder.file("schedule", "open Mon 18:00 to 20:00\n");
+    let mut silent = 0;
+    for hall in halls() {
+        let ended = run(Command::new(script()).arg("works").arg(&hall).arg(schedule));
+        let listed = cutlist(&[&hall]);
+        if listed.status == Some(1) {
+            assert_eq!((ended.status, ended.out), (listed.status, listed.out));
+            assert_eq!(ended.err, listed.err);
+        } else if listed.out.starts_with("cuts 1\n- | ") {
+            ended.listed("minutes 120\nMon 18:00 to Mon 20:00 | 120 minutes, none out\n");
+            silent += 1;
+        } else {
+            ended.listed("minutes 0\n");
+        }
+    }
+    assert!(silent >= 2, "{silent}");
+}
+
 #[test]
 fn a_hall_that_is_refused_by_its_name_is_refused_so() {
     let mut seen = 0;

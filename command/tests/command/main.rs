@@ -13,3 +13,4 @@ mod trimmed;
 mod usage;
 mod widths;
 mod words;
+mod works;

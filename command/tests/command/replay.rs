@@ -12,7 +12,7 @@ use super::words::{LOST, PLAYED};
 const LOG: &[u8] = b"\x44\x00\x44\x01\x44\x01\x55\x00";
 
 const BAD_EVENT: &str = "an event with an unknown command, or half an event";
-const NO_SUCH_EDGE: &str = "an event of a cable not present";
+const NO_SUCH_EDGE: &str = "an event or a works window of a cable not present";
 
 /// Plays back a log.
 fn replay(plan: &Path, log: &Path) -> Ended {

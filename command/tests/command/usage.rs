@@ -25,6 +25,8 @@ fn help_is_printed_wherever_it_is_asked_for() {
         &["widths", "missing", "-", "-", "--help"],
         &["replay", "-h"],
         &["replay", "missing", "-", "-", "--help"],
+        &["works", "-h"],
+        &["works", "missing", "-", "-", "--help"],
     ] {
         words(asked).listed(usage);
     }
@@ -39,6 +41,7 @@ fn an_unknown_option_is_a_wrong_use() {
         words(&["trimmed", "missing", option]).failed(2, &["unknown option ", option]);
         words(&["widths", "missing", option]).failed(2, &["unknown option ", option]);
         words(&["replay", "missing", option]).failed(2, &["unknown option ", option]);
+        words(&["works", "missing", option]).failed(2, &["unknown option ", option]);
     }
 }
 

@@ -30,42 +30,51 @@ pub const PLAYED: &str = "events 4\n\
 /// The widths of the bridge's cuts.
 pub const WIDTHS: &str = "cuts 4\nwidth 2 | 2\nwidth 3 | 2\n";
 
-/// Each word, the log that it takes behind the plan, if it takes one, and what it answers for that
-/// plan.
-const WORDS: [(&str, Option<&str>, &str); 4] = [
+/// When the bridge is silent on its one evening.
+pub const EVENING: &str = "minutes 50\n\
+    Thu 19:40 to Thu 20:00 | 20 minutes, out 0 1\n\
+    Thu 20:00 to Thu 20:30 | 30 minutes, out 0 1 4\n";
+
+/// Each word, the second file that it takes, if it takes one, and what it answers for that plan.
+const WORDS: [(&str, Option<&str>, &str); 5] = [
     ("trimmed", None, BRIDGE_LIST),
     ("widths", None, WIDTHS),
     ("metres", None, ALL),
     ("replay", Some("logs/bridge.hex"), PLAYED),
+    ("works", Some("schedules/one-evening.txt"), EVENING),
 ];
 
-/// What is said where nothing stands behind a word, that takes a log or does not.
-fn needs(word: &str, log: Option<&str>) -> String {
-    let files = log.map_or("FILE", |_| "PLAN and a LOG");
+/// What is said where nothing stands behind a word.
+fn needs(word: &str) -> String {
+    let files = match word {
+        "replay" => "PLAN and a LOG",
+        "works" => "PLAN and a SCHEDULE",
+        _ => "FILE",
+    };
     format!("{word} needs a {files}")
 }
 
-/// Where a log of the repository stands, if there is one.
-fn place(log: Option<&str>) -> Option<PathBuf> {
-    log.map(|log| root().join(log))
+/// Where the second file stands, if there is one.
+fn place(second: Option<&str>) -> Option<PathBuf> {
+    second.map(|second| root().join(second))
 }
 
 /// The same behind a line of bash.
-fn behind(log: Option<&str>) -> String {
-    place(log).map_or(String::new(), |log| format!(" '{}'", log.display()))
+fn behind(second: Option<&str>) -> String {
+    place(second).map_or(String::new(), |second| format!(" '{}'", second.display()))
 }
 
-/// The command with a word, a file, and the log that the word takes.
-fn asked(word: &str, file: &Path, log: Option<&str>) -> Ended {
-    let files = [Some(file.to_path_buf()), place(log)];
+/// The command with a word, a file, and the second that the word takes.
+fn asked(word: &str, file: &Path, second: Option<&str>) -> Ended {
+    let files = [Some(file.to_path_buf()), place(second)];
     run(Command::new(script())
         .arg(word)
         .args(files.iter().flatten()))
 }
 
-/// The command with words and the log, and the plan on standard input.
-fn fed(words: &[&str], log: Option<&str>, plan: &[u8]) -> Ended {
-    feed(Command::new(script()).args(words).args(place(log)), plan)
+/// The command with words and the second file, and the plan on standard input.
+fn fed(words: &[&str], second: Option<&str>, plan: &[u8]) -> Ended {
+    feed(Command::new(script()).args(words).args(place(second)), plan)
 }
 
 #[test]
@@ -73,19 +82,19 @@ fn a_plan_comes_as_it_comes_without_a_word() {
     let folder = Folder::new();
     let plan = &folder.file("plan", MEASURED);
     let text = &folder.file("plan.hex", hexadecimal(MEASURED));
-    for (word, log, answer) in WORDS {
-        asked(word, plan, log).listed(answer);
-        asked(word, text, log).listed(answer);
-        fed(&[word, "-"], log, MEASURED).listed(answer);
-        fed(&[word, "--", "-"], log, MEASURED).listed(answer);
-        let log = behind(log);
-        bash(&format!("cutlist {word} <(cat \"$1\"){log}"), &[plan]).listed(answer);
-        let piped = format!("cat \"$1\" | cutlist {word} /dev/stdin{log}");
+    for (word, second, answer) in WORDS {
+        asked(word, plan, second).listed(answer);
+        asked(word, text, second).listed(answer);
+        fed(&[word, "-"], second, MEASURED).listed(answer);
+        fed(&[word, "--", "-"], second, MEASURED).listed(answer);
+        let second = behind(second);
+        bash(&format!("cutlist {word} <(cat \"$1\"){second}"), &[plan]).listed(answer);
+        let piped = format!("cat \"$1\" | cutlist {word} /dev/stdin{second}");
         bash(&piped, &[plan]).listed(answer);
         let pieces = "{ head -c 11 \"$1\"; sleep 0.1; tail -c +12 \"$1\"; }";
-        bash(&format!("{pieces} | cutlist {word} -{log}"), &[plan]).listed(answer);
+        bash(&format!("{pieces} | cutlist {word} -{second}"), &[plan]).listed(answer);
         let fifo = &folder.0.join(format!("{word}.hex"));
-        let line = format!("mkfifo \"$2\"; cat \"$1\" >\"$2\" & cutlist {word} \"$2\"{log}");
+        let line = format!("mkfifo \"$2\"; cat \"$1\" >\"$2\" & cutlist {word} \"$2\"{second}");
         bash(&line, &[text, fifo]).listed(answer);
     }
 }
@@ -94,32 +103,32 @@ fn a_plan_comes_as_it_comes_without_a_word() {
 fn the_list_program_is_not_asked() {
     let folder = Folder::new();
     let plan = &folder.file("plan", MEASURED);
-    for (word, log, answer) in WORDS {
+    for (word, second, answer) in WORDS {
         run(Command::new(env!("CARGO_BIN_EXE_cutlist"))
             .arg(&folder.0)
             .arg(word)
             .arg(plan)
-            .args(place(log)))
+            .args(place(second)))
         .listed(answer);
     }
 }
 
 #[test]
 fn no_beginning_of_a_plan_has_an_answer() {
-    for (word, log, _) in WORDS {
+    for (word, second, _) in WORDS {
         for end in 0..MEASURED.len() {
-            fed(&[word, "-"], log, &MEASURED[..end]).refused(1, "the plan stops early");
+            fed(&[word, "-"], second, &MEASURED[..end]).refused(1, "the plan stops early");
         }
     }
 }
 
 #[test]
 fn a_file_must_be_named() {
-    for (word, log, _) in WORDS {
+    for (word, ..) in WORDS {
         for words in [&[word][..], &[word, "--"]] {
             let ended = run(Command::new(script()).args(words));
             let file = format!("./{word}");
-            ended.failed(2, &[&needs(word, log), &file, "Usage: cutlist"]);
+            ended.failed(2, &[&needs(word), &file, "Usage: cutlist"]);
         }
     }
 }
@@ -128,15 +137,15 @@ fn a_file_must_be_named() {
 fn what_cannot_be_read_is_said() {
     let folder = Folder::new();
     let malformed = &folder.file("plan.hex", hexadecimal(MEASURED) + "4");
-    for (word, log, _) in WORDS {
+    for (word, second, _) in WORDS {
         let missing = &folder.0.join("missing");
-        asked(word, missing, log).failed(2, &["missing: No such file or directory"]);
-        asked(word, &folder.0, log).failed(2, &["Is a directory"]);
-        asked(word, Path::new(""), log).failed(2, &["No such file or directory"]);
-        asked(word, malformed, log).failed(2, &["plan.hex: line 1: '4' is not bytes"]);
-        let log = behind(log);
-        bash(&format!("cutlist {word} -{log} <&-"), &[]).failed(2, &["-: "]);
-        let unread = format!("cutlist {word} -{log} 0>/dev/null");
+        asked(word, missing, second).failed(2, &["missing: No such file or directory"]);
+        asked(word, &folder.0, second).failed(2, &["Is a directory"]);
+        asked(word, Path::new(""), second).failed(2, &["No such file or directory"]);
+        asked(word, malformed, second).failed(2, &["plan.hex: line 1: '4' is not bytes"]);
+        let second = behind(second);
+        bash(&format!("cutlist {word} -{second} <&-"), &[]).failed(2, &["-: "]);
+        let unread = format!("cutlist {word} -{second} 0>/dev/null");
         bash(&unread, &[]).failed(2, &["-: Bad file descriptor"]);
     }
 }
@@ -149,18 +158,18 @@ fn a_huge_input_has_an_answer() {
     let long = &folder.file("long.hex", &text);
     let longer = &folder.file("longer.hex", text + "45");
     let unfit = "a byte that is no command fit for its place";
-    for (word, log, answer) in WORDS {
+    for (word, second, answer) in WORDS {
         run(Command::new("timeout")
             .arg("60")
             .arg(script())
             .args([word, "/dev/zero"])
-            .args(place(log)))
+            .args(place(second)))
         .refused(2, unfit);
-        asked(word, long, log).listed(answer);
-        asked(word, longer, log).refused(3, "a byte after 45");
-        let log = behind(log);
-        bash(&format!("cutlist {word} -{log} < <(yes)"), &[]).refused(2, unfit);
-        let more = format!("cutlist {word} -{log} < <(cat \"$1\" /dev/zero)");
+        asked(word, long, second).listed(answer);
+        asked(word, longer, second).refused(3, "a byte after 45");
+        let second = behind(second);
+        bash(&format!("cutlist {word} -{second} < <(yes)"), &[]).refused(2, unfit);
+        let more = format!("cutlist {word} -{second} < <(cat \"$1\" /dev/zero)");
         bash(&more, &[plan]).refused(3, "a byte after 45");
     }
 }
@@ -173,57 +182,58 @@ fn a_file_may_have_any_name() {
         "widths",
         "metres",
         "replay",
+        "works",
         "-x",
         "5",
         "a b",
         "cuts 1\n0 | 0",
     ];
-    for (word, log, answer) in WORDS {
+    for (word, second, answer) in WORDS {
         for name in names {
             folder.file(name, MEASURED);
-            let named = |words: &[&str], log| {
+            let named = |words: &[&str], second| {
                 run(Command::new(script())
                     .args(words)
                     .arg(name)
-                    .args(place(log))
+                    .args(place(second))
                     .current_dir(&folder.0))
             };
-            named(&[word, "--"], log).listed(answer);
+            named(&[word, "--"], second).listed(answer);
             named(&["--"], None).listed(BRIDGE_LIST);
             // A message is one line, whatever the name.
             folder.file(name, "");
-            let refused = asked(word, &folder.0.join(name), log);
+            let refused = asked(word, &folder.0.join(name), second);
             refused.refused(1, "the plan stops early");
             assert_eq!(refused.err.lines().count(), 1, "{refused:?}");
         }
         let odd = folder.0.join(OsStr::from_bytes(b"\xFF.hex"));
         std::fs::write(&odd, hexadecimal(MEASURED)).expect("a file");
-        asked(word, &odd, log).listed(answer);
+        asked(word, &odd, second).listed(answer);
     }
 }
 
 /// One word says what to do; the next, and a word behind a file or `--`, is a file's name.
 #[test]
 fn a_file_that_is_called_as_a_word_is_listed() {
-    for (word, log, answer) in WORDS {
+    for (word, second, answer) in WORDS {
         let folder = Folder::new();
         folder.file(word, MEASURED);
         folder.file("plan", MEASURED);
-        let asked = |words: &[&str], log| {
+        let asked = |words: &[&str], second| {
             run(Command::new(script())
                 .args(words)
-                .args(place(log))
+                .args(place(second))
                 .current_dir(&folder.0))
         };
         asked(&[&format!("./{word}")], None).listed(BRIDGE_LIST);
         asked(&["--", word], None).listed(BRIDGE_LIST);
         let both = format!("plan:\n{BRIDGE_LIST}{word}:\n{BRIDGE_LIST}");
         asked(&["plan", word], None).listed(&both);
-        asked(&[word], None).failed(2, &[&needs(word, log)]);
-        for (other, log, answer) in WORDS {
-            asked(&[other, word], log).listed(answer);
+        asked(&[word], None).failed(2, &[&needs(word)]);
+        for (other, second, answer) in WORDS {
+            asked(&[other, word], second).listed(answer);
         }
-        asked(&[word, word], log).listed(answer);
+        asked(&[word, word], second).listed(answer);
     }
 }
 
@@ -232,8 +242,8 @@ fn an_answer_that_is_lost_is_status_3() {
     let folder = Folder::new();
     let plan = &folder.file("plan", MEASURED);
     let refused = &folder.file("refused", "");
-    for (word, log, _) in WORDS {
-        let line = format!("cutlist {word} \"$1\"{}", behind(log));
+    for (word, second, _) in WORDS {
+        let line = format!("cutlist {word} \"$1\"{}", behind(second));
         for plan in [plan, refused] {
             bash(&format!("{line} >/dev/full"), &[plan]).failed(3, &[LOST, "No space left"]);
             bash(&format!("{line} >&-"), &[plan]).failed(3, &[LOST, "Bad file descriptor"]);
@@ -245,7 +255,7 @@ fn an_answer_that_is_lost_is_status_3() {
             let status = Command::new(script())
                 .arg(word)
                 .arg(plan)
-                .args(place(log))
+                .args(place(second))
                 .stdout(writer)
                 .stderr(Stdio::null())
                 .status()
@@ -253,10 +263,10 @@ fn an_answer_that_is_lost_is_status_3() {
             assert_eq!(status.code(), Some(3));
         }
         // With nothing to print nothing is lost.
-        let missing = format!("cutlist {word} missing{} >&-", behind(log));
+        let missing = format!("cutlist {word} missing{} >&-", behind(second));
         bash(&missing, &[]).failed(2, &["missing: No such file"]);
         let none = format!("cutlist {word} >/dev/full");
-        bash(&none, &[]).failed(2, &[&needs(word, log)]);
+        bash(&none, &[]).failed(2, &[&needs(word)]);
     }
 }
 
@@ -265,15 +275,15 @@ fn messages_that_are_lost_change_nothing() {
     let folder = Folder::new();
     let plan = &folder.file("plan", MEASURED);
     let refused = &folder.file("refused", "");
-    for (word, log, answer) in WORDS {
-        let log = behind(log);
+    for (word, second, answer) in WORDS {
+        let second = behind(second);
         for gone in ["2>/dev/full", "2>&-"] {
             for (file, status, out) in [
                 ("\"$1\"", 0, answer),
                 ("\"$2\"", 1, "refused 1\n"),
                 ("missing", 2, ""),
             ] {
-                let line = format!("cutlist {word} {file}{log} {gone}");
+                let line = format!("cutlist {word} {file}{second} {gone}");
                 let ended = bash(&line, &[plan, refused]);
                 assert_eq!((ended.status, ended.out.as_str()), (Some(status), out));
             }

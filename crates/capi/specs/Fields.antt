@@ -8,6 +8,7 @@
 --   JudgedMeans N c r v  what the refusal r and the verdict v on c mean
 --   Played N log lent r n after     playing the log back for N into bytes that held `lent` gives the refusal r and the count n, and leaves
 --                        `after` in them
+--   Counted N o w r n    counting the silent minutes of N with opening windows o and works windows w gives the refusal r and the minutes n
 --   Total N c r m        adding up the metres of the set c in N gives the refusal r and the total m
 --   Tabled N cuts r table    counting the rows `cuts` by width in N gives the refusal r and the table
 --
@@ -23,6 +24,7 @@ use Rattle.graph.specs.Cuts.{Cut, Mincut}
 use Rattle.connectivity.specs.Answers.{relevantOf, verdictOf, numbersOf}
 use Rattle.lengths.specs.Lengths.{totalOf}
 use Rattle.replay.specs.Replay.{replayedBy, silentAfter}
+use Rattle.maintenance.specs.Outage.{outageOf}
 use Rattle.widths.specs.Widths.{widthsOf}
 
 pub record Read (s : List ℕ) (r : ℕ) (N : Network) : Type 0 where
@@ -54,6 +56,10 @@ pub record Played (N : Network) (log lent : List ℕ) (r n : ℕ) (after : List 
   pub refusal : r ≡ replayedBy N log lent .refusal
   pub count : n ≡ replayedBy N log lent .count
   pub bytes : after ≡ silentAfter N log lent
+
+pub record Counted (N : Network) (o w : List ℕ) (r n : ℕ) : Type 0 where
+  pub refusal : r ≡ outageOf N o w .refusal
+  pub minutes : n ≡ outageOf N o w .minutes
 
 pub record Total (N : Network) (c r m : ℕ) : Type 0 where
   pub refusal : r ≡ totalOf N c .refusal

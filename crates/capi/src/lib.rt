@@ -15,7 +15,8 @@ ghost use Rattle.lengths.specs.Lengths.{TotalMeans};
 ghost use Rattle.listing.specs.List.{Listing, ListMeans};
 ghost use Rattle.listing.specs.Trimmed.{TrimmedListing, TrimmedMeans};
 ghost use Rattle.replay.specs.Replay.{ReplayMeans};
-ghost use Rattle.capi.specs.Fields.{Read, Written, Found, Judged, JudgedMeans, Played, Total, Tabled};
+ghost use Rattle.maintenance.specs.Outage.{OutageMeans};
+ghost use Rattle.capi.specs.Fields.{Read, Written, Found, Judged, JudgedMeans, Played, Counted, Total, Tabled};
 
 // Reads a plan. Gives the refusal's number, 0 if there is none, and fills in the record, all zero on refusal.
 #[no_mangle]
@@ -262,6 +263,30 @@ pub extern "C" fn cutlist_replay(
     let replayed = replay::replay(cabled, log, silent);
     *count = replayed.count;
     replayed.refusal
+}
+
+// Counts the minutes of a week in which the room is open and the edges then out hold a minimal cut. Gives the refusal's number, 0 if there
+// is none, and fills in the minutes, 0 on refusal.
+#[no_mangle]
+pub extern "C" fn cutlist_silent_minutes(
+    nodes: u8,
+    source: u8,
+    sink: u8,
+    present: u64,
+    first: &[u8; 64],
+    second: &[u8; 64],
+    metres: &[u16; 64],
+    openings: &[u16],
+    works: &[u16],
+    minutes: &mut u16,
+) -> u8
+    ensures { λ r. ⌜ Counted (assembled nodes source sink present (now (first .entry)) (now (second .entry)) (now (metres .entry))) (now (openings .entry)) (now (works .entry)) r (now (minutes .exit)) ⌝ }
+    ensures means { λ r. ⌜ OutageMeans (assembled nodes source sink present (now (first .entry)) (now (second .entry)) (now (metres .entry))) (now (openings .entry)) (now (works .entry)) r (now (minutes .exit)) ⌝ }
+{
+    let scheduled = assemble(nodes, source, sink, present, first, second, metres);
+    let outage = maintenance::silent_minutes(scheduled, openings, works);
+    *minutes = outage.minutes;
+    outage.refusal
 }
 
 // Counts the rows of a list by width, the number of different pairs of points that a row's cables join. Gives the refusal's number, 0 if

@@ -17,6 +17,8 @@ use Rattle.widths.proofs.Agree.{widths-agree}
 use Rattle.listing.proofs.Agree.{mincuts-agree, sourceSides-agree, call-agrees}
 use Rattle.replay.proofs.Events.{log-more}
 use Rattle.replay.proofs.Agree.{replay-agrees}
+use Rattle.windows.proofs.Windows.{works-more}
+use Rattle.maintenance.proofs.Agree.{outage-agrees}
 use Rattle.text.specs.Text.{refusalLine, listText, maxRows}
 use Rattle.report.specs.Report.{listReport, reportOf}
 use Rattle.demands.specs.Alike.{Alike}
@@ -37,5 +39,6 @@ module _ (M N : Network) (stored′ : Stored M) (stored : Stored N) (ok′ : fau
     widths = λ cuts within. widths-agree M N ok′ ok same cuts (λ c i k m. more k (within c i k m)) within;
     list = call-agrees M N stored′ stored ok′ ok agree;
     replay = λ log lent good. replay-agrees M N stored′ stored ok′ ok agree log (log-more (present N) log (present M) more good) lent;
+    outage = λ o w known. outage-agrees M N stored′ stored ok′ ok agree o w (works-more (present N) (present M) more w known);
     printed = rw (encode-decode M stored′ ok′, encode-decode N stored ok) report-agrees;
   }

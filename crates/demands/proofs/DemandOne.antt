@@ -3,7 +3,7 @@
 use mathlib.Core.Path.{_≡_, refl, sym, ap, subst, _∙_}
 use mathlib.Core.Bool.{Bool, true, false}
 use mathlib.Core.List.{List}
-use mathlib.Core.Logic.{_↔_}
+use mathlib.Core.Logic.{_⊎_, inl, inr, _↔_}
 use Prim.Native.Nat.{ℕ, _≤_, _<_}
 use native.Mathlib.Decide.{ℕ-discrete, decLt}
 use native.Mathlib.Omega.{arith}
@@ -53,10 +53,16 @@ use Rattle.replay.specs.Log.{eventCount}
 use Rattle.replay.specs.Replay.{replayRefusal, replayedBy, silentAfter}
 use Rattle.replay.proofs.Events.{LogCase, good, unknown, absent, half, log-case}
 use Rattle.replay.proofs.Meaning.{Answered as Played, replay-refused, replay-played, refusal-faulty, refusal-short, refusal-log, replay-means}
+use Rattle.maintenance.specs.declared.Outage.{Outage}
+use Rattle.windows.specs.Windows.{openingCount, worksCount, Openings}
+use Rattle.maintenance.specs.Outage.{tooMany, outageRefusal, outageOf}
+use Rattle.windows.proofs.Windows.{WorksCase, openings-case, works-case}
+use Rattle.maintenance.proofs.Meaning.{few, outage-refused, outage-counted, outage-none, outage-means, refusal-many, refusal-openings, refusal-works}
+use Rattle.maintenance.proofs.Meaning as outages
 use Rattle.text.specs.Text.{refusalLine, maxRows}
 use Rattle.report.specs.Report.{listReport, reportOf}
 use Rattle.report.proofs.Reports.{report-outnumbered, report-complete}
-use Rattle.demands.specs.Endings.{ReaderEnds, PartEnds, JudgingEnds, TotalEnds, WidthsEnds, Kept, ListEnds, TrimmedEnds, ReplayEnds, WriterEnds, ReportEnds}
+use Rattle.demands.specs.Endings.{ReaderEnds, PartEnds, JudgingEnds, TotalEnds, WidthsEnds, Kept, ListEnds, TrimmedEnds, ReplayEnds, OutageEnds, WriterEnds, ReportEnds}
 use Rattle.demands.specs.Demands.{DemandOne}
 
 -- A record without a fault keeps the rules.
@@ -241,6 +247,56 @@ module _ (N : Network) (stored : Stored N) (log lent : List ℕ) where
           let fits : eventCount log ≤ length lent = omega arith in
           replay-log (rules N ok) fits (refusal-log N log lent ok fits) (log-case (present N) log)
 
+-- ---- counting silent minutes
+
+module _ (N : Network) (stored : Stored N) (o w : List ℕ) where
+  -- What ends so is what the call answers.
+  outage-ended : {a : Outage} → a ≡ outageOf N o w → OutageEnds N o w a → OutageEnds N o w (outageOf N o w)
+  outage-ended a e = subst (OutageEnds N o w) a e
+
+  refused : (r : ℕ) → 0 < r → outageRefusal N o w ≡ r → record { refusal = r; minutes = 0 } ≡ outageOf N o w
+  refused r some e = outage-refused N o w r (sym e) (λ z. omega arith)
+
+  module _ (kept : Rules N) (fits : tooMany o w ≡ false) where
+    abbrev few-openings : openingCount o ≤ 14
+    few-openings = few o w .0 fits .0
+
+    abbrev few-works : worksCount w ≤ 16
+    few-works = few o w .0 fits .1
+
+    -- By the fault of the works windows, where the opening windows have none.
+    outage-works : Openings o → {r : ℕ} → outageRefusal N o w ≡ r → WorksCase (present N) w r → OutageEnds N o w (outageOf N o w)
+    outage-works opens e (WorksCase.good k) =
+        let answer = outage-counted N o w _ e refl in
+        let means = outage-means N stored o w answer .1 in
+        outage-ended answer (OutageEnds.counted _ kept (outage-none N o w .0 e .1) (means .cut refl))
+    outage-works opens e (WorksCase.bad b) =
+        outage-ended (refused 24 (omega arith) e) (OutageEnds.bad-works kept few-openings few-works opens b)
+    outage-works opens e (WorksCase.absent a) =
+        outage-ended (refused 17 (omega arith) e) (OutageEnds.absent kept few-openings few-works opens a)
+
+    outage-windows : faultOf N ≡ 0 → OutageEnds N o w (outageOf N o w)
+    outage-windows ok =
+        elim (openings-case o) [
+          | inl (z, opens) ↦ outage-works opens (refusal-works N o w ok fits z) (works-case (present N) w)
+          | inr (z, off) ↦
+              outage-ended (refused 24 (omega arith) (refusal-openings N o w ok fits (sym z) (λ e. omega arith)))
+              (OutageEnds.bad-opening kept few-openings few-works off)
+        ]
+
+  outage : OutageEnds N o w (outageOf N o w)
+  outage = go (ℕ-discrete (faultOf N) 0) (decLt 14 (openingCount o)) (decLt 16 (worksCount w))
+    where
+      many : faultOf N ≡ 0 → (14 < openingCount o) ⊎ (16 < worksCount w) → OutageEnds N o w (outageOf N o w)
+      many ok more =
+          outage-ended (refused 23 (omega arith) (refusal-many N o w ok (outages.many o w more))) (OutageEnds.many (rules N ok) more)
+
+      go : Dec (faultOf N ≡ 0) → Dec (14 < openingCount o) → Dec (16 < worksCount w) → OutageEnds N o w (outageOf N o w)
+      go (no f) a b = outage-ended (refused (faultOf N) (some f) (outages.refusal-faulty N o w f)) (OutageEnds.faulty (some f))
+      go (yes ok) (yes h) b = many ok (inl h)
+      go (yes ok) (no h) (yes h′) = many ok (inr h′)
+      go (yes ok) (no h) (no h′) = outage-windows (rules N ok) (few o w .1 (omega arith, omega arith)) ok
+
 -- ---- writing
 
 writer : (N : Network) (lent : List ℕ) → WriterEnds N lent (encodedBy N lent) (bytesAfter N lent)
@@ -298,6 +354,7 @@ demand-one = record {
   too-many = λ N stored cuts sides. call-outnumbered N stored cuts sides refl;
   trimmed = trimmed-list;
   replay = replay;
+  outage = outage;
   writer = λ N stored. writer N;
   program = program;
 }

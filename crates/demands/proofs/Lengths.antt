@@ -37,6 +37,8 @@ use Rattle.listing.specs.Trimmed.{trimmedListedBy, trimmedCutRows, trimmedSideR
 use Rattle.listing.proofs.Agree.{trimmed-call-agrees}
 use Rattle.replay.specs.Replay.{replayedBy, silentAfter}
 use Rattle.replay.proofs.Agree.{replay-agrees}
+use Rattle.maintenance.specs.Outage.{outageOf}
+use Rattle.maintenance.proofs.Agree.{outage-agrees}
 use Rattle.demands.specs.Alike.{Alike}
 use Rattle.demands.specs.Lengths.{EdgeFits, LengthPlaces, withMetres, Accepted, MetresUnread}
 use Rattle.demands.proofs.Alike.{alike}
@@ -171,6 +173,9 @@ module _ (N : Network) (l : List ℕ) where
     replay : (log lent : List ℕ) → (replayedBy M log lent ≡ replayedBy N log lent) × (silentAfter M log lent ≡ silentAfter N log lent)
     replay log lent = replay-agrees M N (b .stored) (a .stored) (b .faultless) (a .faultless) agree log refl lent
 
+    outage : (o w : List ℕ) → outageOf M o w ≡ outageOf N o w
+    outage o w = outage-agrees M N (b .stored) (a .stored) (b .faultless) (a .faultless) agree o w refl
+
     counts : (cuts sides : List ℕ) → listedBy M cuts sides .count ≡ listedBy N cuts sides .count
     counts cuts sides = ap (λ (x : Listed). x .count) (answers .list cuts sides .0)
 
@@ -195,5 +200,6 @@ metres-unread = record {
   widths = widths;
   trimmed = trimmed;
   replay = replay;
+  outage = outage;
   equality = equality;
 }

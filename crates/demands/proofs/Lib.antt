@@ -1,4 +1,4 @@
--- The demands, loops, metres, trunks and logs, what earlier plans keep, then the halls.
+-- The demands, loops, metres, trunks, logs and works, what earlier plans keep, then the halls.
 pub mod DemandOne
 pub mod DemandTwo
 pub mod DemandThree
@@ -8,6 +8,7 @@ pub mod Lengths
 pub mod Trunks
 pub mod Trimmed
 pub mod Replay
+pub mod Works
 pub mod Kept
 pub mod Lifted
 pub mod KeptLengths

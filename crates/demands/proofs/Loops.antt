@@ -37,6 +37,9 @@ use Rattle.listing.specs.Trimmed.{trimmedRefusal, trimmedListedBy}
 use Rattle.replay.specs.Log.{eventCount}
 use Rattle.replay.specs.Replay.{replayRefusal, replayedBy}
 use Rattle.replay.proofs.Events.{LogCase, good, unknown, absent, half, log-case}
+use Rattle.windows.specs.Windows.{openingsFault}
+use Rattle.maintenance.specs.Outage.{tooMany, outageRefusal, outageOf}
+use Rattle.windows.proofs.Windows.{WorksCase, good as kept, bad, absent as missing, works-case, openings-case}
 use Rattle.text.specs.Text.{digits, decimal, wordLine, refusalLine, listText, maxRows}
 use Rattle.report.specs.Report.{listReport, reportOf}
 use Rattle.demands.specs.Loops.{LoopsApart, AsWithout, LoopAdded, TenGone}
@@ -181,6 +184,21 @@ replay N log lent =
     then-other (faultOf N) (test N) (then-other (18 when ltb (length lent) (eventCount log))
     (when-other 18 _ (λ e. omega arith) (omega arith)) (log-fault (log-case (present N) log)))
 
+-- No works windows have it, and no opening windows.
+works-fault : {p : ℕ} {w : List ℕ} {r : ℕ} → WorksCase p w r → r ≡ 10 → ⊥
+works-fault (kept k) e = omega arith
+works-fault (bad b) e = omega arith
+works-fault (missing a) e = omega arith
+
+openings-fault : (o : List ℕ) → openingsFault o ≡ 10 → ⊥
+openings-fault o e = elim (openings-case o) [ inl (z, k) ↦ omega (arith, z, e) | inr (z, f) ↦ omega (arith, z, e) ]
+
+outage : (N : Network) (o w : List ℕ) → outageOf N o w .refusal ≡ 10 → ⊥
+unfolding outageOf outageRefusal
+outage N o w =
+    then-other (faultOf N) (test N) (then-other (23 when tooMany o w) (when-other 23 _ (λ e. omega arith) (omega arith))
+    (then-other (openingsFault o) (openings-fault o) (works-fault (works-case (present N) w))))
+
 pub ten-gone : TenGone
 unfolding among totalOf widthsOf listedBy trimmedFault trimmedRefusal trimmedListedBy encodedBy encodeRefusal
 ten-gone = record {
@@ -193,6 +211,7 @@ ten-gone = record {
   list = list;
   trimmed = λ N cuts sides. then-other (trimmedFault N) (then-other (faultOf N) (test N) (when-other 26 _ (λ e. omega arith) (omega arith))) (list N cuts sides);
   replay = replay;
+  outage = outage;
   writer = λ N lent. then-other (faultOf N) (test N) (when-other 15 _ (λ e. omega arith) (omega arith));
   program = program;
 }

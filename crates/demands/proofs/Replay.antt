@@ -27,7 +27,7 @@ use Rattle.demands.proofs.DemandTwo.{demand-two}
 -- ---- what a byte tells
 
 -- A set of edges holds a mincut exactly if it holds a row of a complete list.
-holds-row : (N : Network) (n : ℕ) (cuts sides : List ℕ) → CompleteList N n cuts sides → (d : ℕ)
+pub holds-row : (N : Network) (n : ℕ) (cuts sides : List ℕ) → CompleteList N n cuts sides → (d : ℕ)
     → HoldsMincut N d ↔ ((j : ℕ) × (j < n) × (getD cuts j 0 ⊆ d))
 holds-row N n cuts sides whole d = (
   λ h. let (j, l, e) = whole .members (h .0) .1 (h .1 .0) in (j, l, rw e (h .1 .1)),

@@ -1,8 +1,8 @@
 -- Two networks for which the calls answer alike.
 -- To believe.
 --
---   Alike M N        M has the useful part, the verdicts on N's cables, the widths of rows of these, the list and the print of N, and logs of
---                    N's cables play back alike
+--   Alike M N        M has the useful part, the verdicts on N's cables, the widths of rows of these, the list and the print of N, logs of N's
+--                    cables play back alike, and works on them silence the same minutes
 use mathlib.Core.List.{List}
 use mathlib.Core.Path.{_≡_}
 use Prim.Native.Nat.{ℕ}
@@ -16,6 +16,8 @@ use Rattle.widths.specs.Widths.{widthsOf}
 use Rattle.listing.specs.List.{listedBy, cutRowsAfter, sideRowsAfter}
 use Rattle.replay.specs.Log.{eventCount, GoodEvents}
 use Rattle.replay.specs.Replay.{replayedBy, silentAfter}
+use Rattle.windows.specs.Windows.{worksFault}
+use Rattle.maintenance.specs.Outage.{outageOf}
 use Rattle.report.specs.Report.{reportOf}
 
 -- The list call answers alike and leaves the same rows, whatever was lent: count, cuts, sides and later rows, on refusal too.
@@ -29,4 +31,5 @@ pub record Alike (M N : Network) : Type 0 where
       × (sideRowsAfter M cuts sides ≡ sideRowsAfter N cuts sides)
   pub replay : (log lent : List ℕ) → GoodEvents (present N) log (eventCount log)
       → (replayedBy M log lent ≡ replayedBy N log lent) × (silentAfter M log lent ≡ silentAfter N log lent)
+  pub outage : (o w : List ℕ) → (worksFault (present N) w ≡ 17 → ⊥) → outageOf M o w ≡ outageOf N o w
   pub printed : reportOf (encodeOf M) ≡ reportOf (encodeOf N)

@@ -1,6 +1,6 @@
 -- The customer's three demands, as statements about the calls. What a call answers and leaves is what its contract says: `decodeOf`,
--- `faultOf`, `relevantOf`, `verdictOf`, `totalOf`, `widthsOf`, `listedBy` and `trimmedListedBy` with the rows afterwards, `replayedBy` and
--- `encodedBy` with the bytes afterwards, and `reportOf` of the program. What the types of the code say of any record, `Stored N`, is in the
+-- `faultOf`, `relevantOf`, `verdictOf`, `totalOf`, `widthsOf`, `outageOf`, `listedBy` and `trimmedListedBy` with the rows afterwards,
+-- `replayedBy` and `encodedBy` with the bytes afterwards, and `reportOf` of the program. What the types of the code say of any record, `Stored N`, is in the
 -- contract of every call that takes one, and what they say of any bytes, `Bytes s`, in that of the reader.
 -- To believe.
 --
@@ -24,8 +24,9 @@ use Rattle.widths.specs.Widths.{widthsOf}
 use Rattle.listing.specs.List.{listedBy, cutRowsAfter, sideRowsAfter}
 use Rattle.listing.specs.Trimmed.{trimmedListedBy, trimmedCutRows, trimmedSideRows}
 use Rattle.replay.specs.Replay.{replayedBy, silentAfter}
+use Rattle.maintenance.specs.Outage.{outageOf}
 use Rattle.report.specs.Report.{reportOf}
-use Rattle.demands.specs.Endings.{ReaderEnds, PartEnds, JudgingEnds, TotalEnds, WidthsEnds, ListEnds, TrimmedEnds, ReplayEnds, WriterEnds, ReportEnds}
+use Rattle.demands.specs.Endings.{ReaderEnds, PartEnds, JudgingEnds, TotalEnds, WidthsEnds, ListEnds, TrimmedEnds, ReplayEnds, OutageEnds, WriterEnds, ReportEnds}
 
 pub record DemandOne : Type 0 where
   -- The record test finds no fault exactly if the record keeps the rules.
@@ -45,6 +46,7 @@ pub record DemandOne : Type 0 where
   pub trimmed : (N : Network) → Stored N → (cuts sides : List ℕ)
       → TrimmedEnds N cuts sides (trimmedListedBy N cuts sides) (trimmedCutRows N cuts sides) (trimmedSideRows N cuts sides)
   pub replay : (N : Network) → Stored N → (log lent : List ℕ) → ReplayEnds N log lent (replayedBy N log lent) (silentAfter N log lent)
+  pub outage : (N : Network) → Stored N → (o w : List ℕ) → OutageEnds N o w (outageOf N o w)
   pub writer : (N : Network) → Stored N → (lent : List ℕ) → WriterEnds N lent (encodedBy N lent) (bytesAfter N lent)
   pub program : (s : List ℕ) → ReportEnds s (reportOf s)
 

@@ -14,10 +14,11 @@
 --   ListEnds N cuts sides l cuts′ sides′     listing N into rows that held `cuts` and `sides` gives l and leaves cuts′ and sides′
 --   TrimmedEnds N cuts sides l cuts′ sides′  listing N, trimmed already, into such rows gives l and leaves cuts′ and sides′
 --   ReplayEnds N log lent a after    playing the log back for N into bytes that held `lent` gives a and leaves `after`
+--   OutageEnds N o w a               counting the silent minutes of N with opening windows o and works windows w gives a
 --   WriterEnds N lent e after        writing N into a buffer that held `lent` gives e and leaves `after`
 --   ReportEnds s t                   for the input s the list program prints t
 use mathlib.Core.List.{List}
-use mathlib.Core.Logic.{_↔_}
+use mathlib.Core.Logic.{_⊎_, _↔_}
 use mathlib.Core.Path.{_≡_}
 use Prim.Native.Nat.{ℕ, suc, _%_, _≤_, _<_}
 use lib.Dec.{T}
@@ -30,7 +31,7 @@ use Rattle.network.specs.Rules.{Rules, RowsPresent}
 use Rattle.format.specs.declared.Decoded.{Decoded}
 use Rattle.format.specs.declared.Encoded.{Encoded}
 use Rattle.format.specs.Format.{readerRefusals, accept, refuse, decodeOf, encodeOf}
-use Rattle.graph.specs.Cuts.{RelevantEdge, RelevantNode, Trimmed, Untrimmed}
+use Rattle.graph.specs.Cuts.{HoldsMincut, RelevantEdge, RelevantNode, Trimmed, Untrimmed}
 use Rattle.graph.specs.Lists.{CompleteList, Outnumber}
 use Rattle.connectivity.specs.declared.RelevantPart.{RelevantPart}
 use Rattle.connectivity.specs.declared.Verdict.{Verdict}
@@ -43,6 +44,9 @@ use Rattle.listing.specs.declared.Listed.{Listed}
 use Rattle.replay.specs.declared.Replayed.{Replayed}
 use Rattle.replay.specs.Log.{eventCount, edgeAt, downAfter, Command, GoodEvents, LogRules}
 use Rattle.replay.specs.Replay.{Tells}
+use Rattle.maintenance.specs.declared.Outage.{Outage}
+use Rattle.windows.specs.Windows.{isOpen, outAt, openingCount, worksCount, Openings, BadWindow, AbsentEdge}
+use Rattle.maintenance.specs.Outage.{WindowRules, Minutes}
 use Rattle.text.specs.Text.{refusalLine, listText, maxRows}
 
 -- A plan within the rules is read; any other bytes are refused with one of the reader's numbers, beside the all-zero record.
@@ -107,6 +111,19 @@ pub data ReplayEnds (N : Network) (log lent : List ℕ) : Replayed → List ℕ 
       → (edgeAt log i ∈ present N → ⊥) → ReplayEnds N log lent (record { refusal = 17; count = 0 }) lent
   half : Rules N → eventCount log ≤ length lent → GoodEvents (present N) log (eventCount log) → (length log % 2 ≡ 0 → ⊥)
       → ReplayEnds N log lent (record { refusal = 16; count = 0 }) lent
+
+-- The open minutes in which the edges out hold a minimal cut; 23 for too many windows of either kind; then the first window that is
+-- against the rules decides, opening windows before works windows, and of a works window 24 before 17. On refusal the minutes are 0.
+pub data OutageEnds (N : Network) (o w : List ℕ) : Outage → Type 0 where
+  counted : (n : ℕ) → Rules N → WindowRules (present N) o w → Minutes (λ m. T (isOpen o m) × HoldsMincut N (outAt w m)) n
+      → OutageEnds N o w (record { refusal = 0; minutes = n })
+  faulty : 0 < faultOf N → OutageEnds N o w (record { refusal = faultOf N; minutes = 0 })
+  many : Rules N → (14 < openingCount o) ⊎ (16 < worksCount w) → OutageEnds N o w (record { refusal = 23; minutes = 0 })
+  bad-opening : Rules N → openingCount o ≤ 14 → worksCount w ≤ 16 → (Openings o → ⊥) → OutageEnds N o w (record { refusal = 24; minutes = 0 })
+  bad-works : Rules N → openingCount o ≤ 14 → worksCount w ≤ 16 → Openings o → BadWindow (present N) w
+      → OutageEnds N o w (record { refusal = 24; minutes = 0 })
+  absent : Rules N → openingCount o ≤ 14 → worksCount w ≤ 16 → Openings o → AbsentEdge (present N) w
+      → OutageEnds N o w (record { refusal = 17; minutes = 0 })
 
 -- The plan's bytes and later bytes as they were; 15 for a buffer that is too short.
 pub data WriterEnds (N : Network) (lent : List ℕ) : Encoded → List ℕ → Type 0 where

@@ -26,7 +26,12 @@ pub const BAD_LENGTH: u8 = 28; // a length that is not of the cable just before 
 // By what kept the log.
 pub const BAD_EVENT: u8 = 16; // an event with an unknown command, or half an event
 
-pub const NO_SUCH_EDGE: u8 = 17; // an event of a cable not present
+pub const NO_SUCH_EDGE: u8 = 17; // an event or a works window of a cable not present
+
+// By the one who planned the week.
+pub const TOO_MANY_WINDOWS: u8 = 23; // more than 14 opening windows, or more than 16 works windows
+
+pub const BAD_WINDOW: u8 = 24; // a window whose start is not below its end or whose end is above 10,080, or a piece of one
 
 // By the program that calls.
 pub const ROWS_DIFFER: u8 = 11; // cut rows and side rows differ in number

@@ -10,9 +10,10 @@
 //!   --file FILE    the bytes of a file alone
 //!   --smoke        a fixed seed and number of cases, which must meet every kind of answer
 //!   --digest       one number for all that the library answers on the cases of the smoke run, or on
-//!                  those of --seed and --cases, but for the lists of trimmed plans, logs and widths
+//!                  those of --seed and --cases, but for the lists of trimmed plans, logs, weeks and widths
 //!   --trimmed      with --digest: the number of these lists alone
 //!   --replay       with --digest: the number of what is written for logs alone
+//!   --works        with --digest: the number of the silent minutes of weeks alone
 //!   --widths       with --digest: the number of the width tables alone
 //!   --without-loops
 //!                  with --digest: leaves out the cases in which a cable has both ends at one point, so
@@ -29,7 +30,9 @@ use std::time::{Duration, Instant, SystemTime, UNIX_EPOCH};
 
 use cutlist_tests::fuzz::case::Case;
 use cutlist_tests::fuzz::counts::Counts;
-use cutlist_tests::fuzz::digest::{digest, replay_digest, trimmed_digest, widths_digest};
+use cutlist_tests::fuzz::digest::{
+    digest, replay_digest, trimmed_digest, widths_digest, works_digest,
+};
 use cutlist_tests::fuzz::search::{panic_of, search, Difference};
 use cutlist_tests::fuzz::shrinking::shrink;
 use cutlist_tests::fuzz::{making, questions};
@@ -55,6 +58,7 @@ struct Options {
     digest: bool,
     trimmed: bool,
     replay: bool,
+    works: bool,
     widths: bool,
     without_loops: bool,
     without_lengths: bool,
@@ -77,6 +81,7 @@ impl Options {
                 "--digest" => options.digest = true,
                 "--trimmed" => options.trimmed = true,
                 "--replay" => options.replay = true,
+                "--works" => options.works = true,
                 "--widths" => options.widths = true,
                 "--without-loops" => options.without_loops = true,
                 "--without-lengths" => options.without_lengths = true,
@@ -86,6 +91,7 @@ impl Options {
         for (given, name) in [
             (options.trimmed, "--trimmed"),
             (options.replay, "--replay"),
+            (options.works, "--works"),
             (options.widths, "--widths"),
             (options.without_loops, "--without-loops"),
             (options.without_lengths, "--without-lengths"),
@@ -94,10 +100,17 @@ impl Options {
                 return Err(format!("{name} goes with --digest alone"));
             }
         }
-        let alone = [options.trimmed, options.replay, options.widths];
+        let alone = [
+            options.trimmed,
+            options.replay,
+            options.works,
+            options.widths,
+        ];
         match alone.into_iter().filter(|&given| given).count() {
             0 | 1 => Ok(options),
-            _ => Err("--trimmed, --replay and --widths are numbers of their own".to_string()),
+            _ => Err(
+                "--trimmed, --replay, --works and --widths are numbers of their own".to_string(),
+            ),
         }
     }
 }
@@ -128,10 +141,11 @@ fn tell_digest(options: &Options) -> ExitCode {
         .map(|case| make(seed, case))
         .filter(|bytes| !options.without_loops || !Case::of(bytes).has_loop())
         .filter(|bytes| !options.without_lengths || !bytes.contains(&0x4D));
-    let number = match (options.trimmed, options.replay, options.widths) {
-        (true, ..) => trimmed_digest(cases),
-        (_, true, _) => replay_digest(cases),
-        (.., true) => widths_digest(cases),
+    let number = match options {
+        Options { trimmed: true, .. } => trimmed_digest(cases),
+        Options { replay: true, .. } => replay_digest(cases),
+        Options { works: true, .. } => works_digest(cases),
+        Options { widths: true, .. } => widths_digest(cases),
         _ => digest(cases),
     };
     println!("{number:016x}");
@@ -226,6 +240,10 @@ fn tell(bytes: &[u8]) -> bool {
         case.buffer, case.rows, case.more_sides, case.set
     );
     println!("log {:02X?}", case.log);
+    println!(
+        "openings {:?}, works {:?}",
+        case.week.openings, case.week.works
+    );
     let difference = ask_alone(bytes);
     match &difference {
         Some(message) => println!("differs: {message}"),

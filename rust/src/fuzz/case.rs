@@ -7,7 +7,9 @@ use std::array;
 use crate::brute::members;
 use crate::logs;
 use crate::record::{Record, MOST_NODES, SLOTS};
+use crate::reference::{MOST_OPENINGS, MOST_WORKS};
 use crate::rng::Rng;
+use crate::weeks::{self, Week};
 
 /// Bytes in the head.
 pub const HEAD: usize = 22;
@@ -45,6 +47,9 @@ pub struct Case<'a> {
     pub set: u64,
     /// The log to play back: drawn from the set but for its lowest byte, which is the log's length.
     pub log: Vec<u8>,
+    /// The week whose silent minutes are counted: drawn from the set but for its lowest three bytes, of
+    /// which the second and the third say how many numbers openings and works have.
+    pub week: Week,
 }
 
 /// A size: measured from what is needed, from the least that always suffices, or from nothing.
@@ -113,8 +118,15 @@ impl Case<'_> {
             ..record(&fields)
         };
 
-        let [length, ..] = set.to_le_bytes();
+        let [length, openings, works, ..] = set.to_le_bytes();
         let log = logs::log(&mut Rng::new(set >> 8), &record, length.into());
+        // Up to two windows more than are fit, and pieces of them.
+        let week = weeks::week(
+            &mut Rng::numbered(set >> 24, 1),
+            &record,
+            usize::from(openings) % (2 * MOST_OPENINGS + 4),
+            usize::from(works) % (3 * MOST_WORKS + 5),
+        );
 
         Case {
             body,
@@ -130,6 +142,7 @@ impl Case<'_> {
             },
             set,
             log,
+            week,
         }
     }
 

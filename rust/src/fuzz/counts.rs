@@ -7,9 +7,10 @@ use crate::answers::Verdict::{Minimal, NotCut, NotMinimal};
 use crate::brute::{self, members};
 use crate::plans;
 use crate::record::{Record, MOST_NODES};
-use crate::reference::{self, FAULTS, LONGEST_PLAN, READING};
+use crate::reference::{self, FAULTS, LONGEST_PLAN, MOST_OPENINGS, MOST_WORKS, READING, WEEK};
 use crate::sides;
 use crate::tally::{Tally, Verdicts};
+use crate::weeks::Week;
 
 /// A room is far if it is so many cables away from the server: a spread takes as many rounds to it.
 pub const FAR: u32 = 24;
@@ -27,6 +28,7 @@ pub struct Counts {
     pub list: Tally,
     pub list_trimmed: Tally,
     pub replay: Tally,
+    pub silent_minutes: Tally,
     pub widths: Tally,
     pub verdicts: Verdicts,
     /// Halls with a complete list, by length: one row, or more.
@@ -71,6 +73,26 @@ pub struct Counts {
     pub half_events_behind: u64,
     /// Logs with one byte less lent than there are whole events, with as many, one more and two more.
     pub lent_to_logs: [u64; 4],
+    /// Weeks whose minutes were counted: those without an opening window, and of the others those of whose
+    /// open minutes none is silent, some are and all are; the most silent minutes. Those with the most
+    /// windows of both kinds, those in which an opening window and a works window have a start or an end
+    /// in common, and those in which a window starts where another of its kind ends.
+    pub closed_weeks: u64,
+    pub heard_weeks: u64,
+    pub partly_silent_weeks: u64,
+    pub silent_weeks: u64,
+    pub most_minutes: u16,
+    pub full_weeks: u64,
+    pub shared_boundaries: u64,
+    pub touching_windows: u64,
+    /// Weeks refused by their openings and by their works: for too many of them, for a whole window, and
+    /// for a piece of one alone. 23 may be for both.
+    pub too_many_windows: [u64; 2],
+    pub bad_windows: [u64; 2],
+    pub pieces: [u64; 2],
+    /// Weeks refused for the number of a cable whose lowest six bits are a present one's, and whose lowest
+    /// eight are.
+    pub aliases: [u64; 2],
     /// Rows counted by width: all, those that are narrower than they have cables, and those that hold a
     /// cable and not the lowest of those between the same points. Lists without a row.
     pub rows_counted: u64,
@@ -168,6 +190,62 @@ impl Counts {
         }
     }
 
+    /// Notes the answer to a week.
+    pub fn planned(&mut self, record: &Record, week: &Week, number: u8, minutes: u16) {
+        self.silent_minutes.count(number);
+        match number {
+            0 => self.minutes_counted(week, minutes),
+            17 => {
+                let mut cables = week.works.chunks_exact(3).map(|window| window[2]);
+                let holds = |cable: u16| cable < 64 && record.holds(cable.into());
+                let absent = cables.find(|&cable| !holds(cable)).expect("an absent one");
+                for (aliases, bits) in self.aliases.iter_mut().zip([6, 8]) {
+                    *aliases += u64::from(holds(absent % (1 << bits)));
+                }
+            }
+            23 => {
+                let [openings, works] = &mut self.too_many_windows;
+                *openings += u64::from(week.openings.len() > 2 * MOST_OPENINGS);
+                *works += u64::from(week.works.len() > 3 * MOST_WORKS);
+            }
+            24 => {
+                let whole = week.whole();
+                let (kind, by_a_whole_one) = match reference::open_minutes(&week.openings) {
+                    Err(_) => (0, reference::open_minutes(&whole.openings).is_err()),
+                    Ok(_) => (1, reference::cables_out(record, &whole.works).is_err()),
+                };
+                match by_a_whole_one {
+                    true => self.bad_windows[kind] += 1,
+                    false => self.pieces[kind] += 1,
+                }
+            }
+            _ => (),
+        }
+    }
+
+    /// Notes a week whose minutes were counted.
+    fn minutes_counted(&mut self, week: &Week, minutes: u16) {
+        let [openings, works] = week.boundaries();
+        let open = reference::open_minutes(&week.openings).expect("no fault");
+        let open = open.into_iter().filter(|&open| open).count();
+        match (open, usize::from(minutes)) {
+            (0, _) => self.closed_weeks += 1,
+            (_, 0) => self.heard_weeks += 1,
+            (open, silent) if silent < open => self.partly_silent_weeks += 1,
+            _ => self.silent_weeks += 1,
+        }
+        self.most_minutes = self.most_minutes.max(minutes);
+        let full = openings.len() == MOST_OPENINGS && works.len() == MOST_WORKS;
+        self.full_weeks += u64::from(full);
+        let at_works = |time: &u16| works.iter().flatten().any(|other| other == time);
+        self.shared_boundaries += u64::from(openings.iter().flatten().any(at_works));
+        let touch = |windows: &[[u16; 2]]| {
+            let ends = |&[start, _]: &[u16; 2]| windows.iter().any(|&[_, end]| end == start);
+            windows.iter().any(ends)
+        };
+        self.touching_windows += u64::from(touch(&openings) || touch(&works));
+    }
+
     /// Notes the answer to a list that was to be counted by width.
     pub fn counted(&mut self, record: &Record, rows: &[u64], number: u8) {
         self.widths.count(number);
@@ -188,7 +266,7 @@ impl Counts {
     }
 
     /// Every refusal of every function occurred and no other, every verdict, short and long lists,
-    /// long ways, loops, trimmed halls, lengths, logs and widths.
+    /// long ways, loops, trimmed halls, lengths, logs, weeks and widths.
     pub fn assert_wide(&self) {
         for (tally, of_the_plan, more) in [
             (&self.decode, READING, &[][..]),
@@ -200,6 +278,7 @@ impl Counts {
             (&self.list, FAULTS, &[11, 12]),
             (&self.list_trimmed, FAULTS, &[26, 11, 12]),
             (&self.replay, FAULTS, &[16, 17, 18]),
+            (&self.silent_minutes, FAULTS, &[17, 23, 24]),
             (&self.widths, FAULTS, &[14]),
         ] {
             let numbers = [&[0], of_the_plan, more].concat();
@@ -241,6 +320,25 @@ impl Counts {
             self.lent_to_logs.iter().all(|&logs| logs >= 20_000),
             "{self}"
         );
+        self.silent_minutes.assert_each(&[0, 17, 23, 24], 5_000);
+        assert!(self.closed_weeks >= 1_000, "{self}");
+        assert!(self.heard_weeks >= 10_000, "{self}");
+        assert!(self.partly_silent_weeks >= 10_000, "{self}");
+        assert!(self.silent_weeks >= 5_000, "{self}");
+        assert_eq!(self.most_minutes, WEEK, "{self}");
+        assert!(self.full_weeks >= 200, "{self}");
+        assert!(self.shared_boundaries >= 20_000, "{self}");
+        assert!(self.touching_windows >= 20_000, "{self}");
+        let refused = [
+            self.too_many_windows,
+            self.bad_windows,
+            self.pieces,
+            self.aliases,
+        ];
+        assert!(
+            refused.as_flattened().iter().all(|&weeks| weeks >= 500),
+            "{self}"
+        );
         self.widths.assert_each(&[0, 14], 40_000);
         assert!(self.narrow_rows >= 100_000, "{self}");
         assert!(self.rows_without_the_lowest >= 100_000, "{self}");
@@ -263,6 +361,7 @@ impl fmt::Display for Counts {
             ("list", &self.list),
             ("list_trimmed", &self.list_trimmed),
             ("replay", &self.replay),
+            ("silent_minutes", &self.silent_minutes),
             ("widths", &self.widths),
         ] {
             questions.push(format!("{name} {}", tally.total()));
@@ -288,6 +387,11 @@ impl fmt::Display for Counts {
              events played back: {} heard, {} silent, {} that silence, {} that bring back, {} repeats, up to {} in a log; \
              {} half events, {} behind another fault; \
              logs with one byte too few lent, as many, one more and two more: {:?}; \
+             weeks counted: {} closed, {} heard, {} partly silent, {} silent, up to {} minutes; \
+             {} of the most windows, {} with a start or an end of openings and works in common, \
+             {} with windows that touch; weeks refused by openings and by works: \
+             {:?} for too many windows, {:?} for a whole one, {:?} for a piece alone; \
+             for a cable that in six bits, and in eight, is another's number: {:?}; \
              {} rows counted, {} of them narrower than they have cables, {} without the lowest cable of a pair; \
              {} lists without a row counted",
             all.of(0),
@@ -320,6 +424,18 @@ impl fmt::Display for Counts {
             self.half_events,
             self.half_events_behind,
             self.lent_to_logs,
+            self.closed_weeks,
+            self.heard_weeks,
+            self.partly_silent_weeks,
+            self.silent_weeks,
+            self.most_minutes,
+            self.full_weeks,
+            self.shared_boundaries,
+            self.touching_windows,
+            self.too_many_windows,
+            self.bad_windows,
+            self.pieces,
+            self.aliases,
             self.rows_counted,
             self.narrow_rows,
             self.rows_without_the_lowest,

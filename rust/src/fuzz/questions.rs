@@ -9,6 +9,7 @@ use crate::logs;
 use crate::record::{Record, SLOTS};
 use crate::reference::LONGEST_PLAN;
 use crate::rng::Rng;
+use crate::weeks::{self, Week};
 use crate::{brute, compare, plans, sides};
 
 /// The longest list that the reference makes, so that it answers soon whatever the hall. A hall
@@ -66,7 +67,9 @@ fn on_the_record(case: &Case, counts: &mut Counts) {
         other_loops(case, &known, &mut rng, counts);
         trimmed(case, &known, &mut rng, counts);
     }
-    playing_back(case, &known, &cuts, counts);
+    let is_silent = |down| known.is_silent(record, &cuts, down);
+    playing_back(case, &cuts, is_silent, counts);
+    counting_minutes(case, &cuts, is_silent, counts);
     if !cuts.is_empty() {
         counts.listed(cuts.len(), known.part);
     }
@@ -105,21 +108,32 @@ fn adding_up(record: &Record, set: u64, counts: &mut Counts) {
     counts.added_up(total);
 }
 
-/// The room is silent while no route is left, which is while some minimal cut, if they are known, is
-/// wholly down.
-fn playing_back(case: &Case, known: &Known, cuts: &[u64], counts: &mut Counts) {
+fn playing_back(
+    case: &Case,
+    cuts: &[u64],
+    is_silent: impl Fn(u64) -> bool + Copy,
+    counts: &mut Counts,
+) {
     let record = &case.record;
-    let is_silent = |down| {
-        let silent = known.is_cut(record, down);
-        let by_cuts = cuts.is_empty() || brute::holds_one(cuts, down) == silent;
-        assert!(by_cuts, "{down:#x}, {record:?}");
-        silent
-    };
     let mut rng = Rng::new(!case.set);
     for (log, lent) in logs(case, cuts, &mut rng) {
         let before = rng.bytes(lent);
         let (number, silent) = compare::replay(record, &log, &before, is_silent);
         counts.played(record, &log, lent, number, &silent);
+    }
+}
+
+fn counting_minutes(
+    case: &Case,
+    cuts: &[u64],
+    is_silent: impl Fn(u64) -> bool + Copy,
+    counts: &mut Counts,
+) {
+    let record = &case.record;
+    for week in weeks(case, cuts) {
+        let (number, minutes) =
+            compare::silent_minutes(record, &week.openings, &week.works, is_silent);
+        counts.planned(record, &week, number, minutes);
     }
 }
 
@@ -213,6 +227,20 @@ pub fn logs(case: &Case, cuts: &[u64], rng: &mut Rng) -> Vec<(Vec<u8>, usize)> {
     all.into_iter().map(with_lent).collect()
 }
 
+/// The weeks whose silent minutes to count: that of the case, its whole windows, those damaged, and, if
+/// the list is known, one in which a minimal cut is out.
+pub fn weeks(case: &Case, cuts: &[u64]) -> Vec<Week> {
+    let mut rng = Rng::numbered(case.set, 2);
+    let whole = case.week.whole();
+    let mut damaged = whole.clone();
+    for _ in 0..=rng.below(2) {
+        weeks::damage(&mut rng, &case.record, &mut damaged);
+    }
+    let mut all = vec![case.week.clone(), whole, damaged];
+    all.extend(one_of(case, cuts).and_then(|cut| weeks::all_out(&mut rng, cut)));
+    all
+}
+
 /// The lists to count by width: any words, rows of the record's cables, those with one cable that it
 /// has not in the first row, the middle one or the last, and the list, if it is known, or no row.
 pub fn lists(case: &Case, cuts: &[u64]) -> Vec<Vec<u64>> {
@@ -300,6 +328,15 @@ impl Known {
             Some(minpaths) => brute::is_cut(minpaths, set),
             None => sides::is_cut(record, set),
         }
+    }
+
+    /// The room is silent while no route is left, which is while some minimal cut, if they are known, is
+    /// wholly down.
+    fn is_silent(&self, record: &Record, cuts: &[u64], down: u64) -> bool {
+        let silent = self.is_cut(record, down);
+        let by_cuts = cuts.is_empty() || brute::holds_one(cuts, down) == silent;
+        assert!(by_cuts, "{down:#x}, {record:?}");
+        silent
     }
 
     fn verdict(&self, record: &Record, set: u64) -> Verdict {

@@ -1,0 +1,2 @@
+-- The definitions that the contracts of `maintenance` cite.
+pub mod Outage

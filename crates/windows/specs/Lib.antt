@@ -1,0 +1,3 @@
+-- The definitions that the contracts of `windows` cite.
+pub mod Windows
+pub mod Times
