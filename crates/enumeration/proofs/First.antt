@@ -24,7 +24,8 @@ use Rattle.branches.proofs.ReachIn.{reachIn-start, reachIn-over}
 use Rattle.branches.proofs.Part.{part-reachIn}
 use Rattle.branches.proofs.Branches.{sink-relevant}
 use Rattle.branches.proofs.Complete.{rows-join}
-use Rattle.enumeration.specs.Rows.{Fed, Hangs, Put}
+use Rattle.parts.specs.Parts.{Hangs}
+use Rattle.enumeration.specs.Rows.{Fed, Put}
 
 module _ (N : Network) (S : Sound N) where
   -- The relevant edges are present.

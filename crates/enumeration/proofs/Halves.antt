@@ -27,7 +27,8 @@ use Rattle.branches.proofs.ReachIn.{reachIn-start, reachIn-⊆, reachIn-same}
 use Rattle.branches.proofs.Recursion.{candidate-in, rows-leaf, rows-split}
 use Rattle.adjacency.specs.Adjacency.{Adjacency}
 use Rattle.enumeration.specs.Tables.{Incidence}
-use Rattle.enumeration.specs.Rows.{Fed, Whole, Hangs, Capacity, Put}
+use Rattle.parts.specs.Parts.{Hangs}
+use Rattle.enumeration.specs.Rows.{Fed, Whole, Capacity, Put}
 use Rattle.enumeration.proofs.Putting.{put-none, put-both}
 
 -- ---- a node joins

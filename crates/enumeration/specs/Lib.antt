@@ -1,4 +1,3 @@
 -- The definitions that the contracts of `enumeration` cite.
 pub mod Tables
-pub mod Parts
 pub mod Rows

@@ -3,7 +3,6 @@
 --
 --   Fed M b          the sink is in the rest of the branch b, and it is not undecided
 --   Whole M b        the rest of the branch b is what the sink reaches inside it
---   Hangs M rest v sink         every node of the rest but v hangs on the sink: the sink reaches it inside the rest
 --   Capacity n limit cuts sides     rows are counted to one past the limit, and n are; no area is longer than the limit
 --   Put l n limit cuts sides cuts′ sides′ r
 --                    the areas cuts and sides have become cuts′ and sides′: they hold the rows of l from place n on, as far as they reach,
@@ -21,6 +20,7 @@ use lib.Seq.{sets}
 use Rattle.bitset.specs.Members.{_∈_, _∖_}
 use Rattle.network.specs.declared.Network.{Network}
 use Rattle.graph.specs.Relevant.{reachIn}
+use Rattle.parts.specs.Parts.{Hangs}
 use Rattle.branches.specs.declared.Branch.{Branch}
 use Rattle.branches.specs.Enumeration.{Row, cutsOf, sidesOf, joined, joinRows, leaveOutRows}
 use Rattle.enumeration.specs.Tables.{Tables}
@@ -31,9 +31,6 @@ pub record Fed (M : Network) (b : Branch) : Type 0 where
 
 abbrev pub Whole : Network → Branch → Type 0
 Whole M b = reachIn M (b .rest .0) (M .sink) ≡ b .rest .0
-
-abbrev pub Hangs : Network → ℕ → ℕ → ℕ → Type 0
-Hangs M rest v sink = (w : ℕ) → w ∈ rest → (w ≡ v → ⊥) → w ∈ reachIn M rest sink
 
 pub record Capacity (n limit : ℕ) (cuts sides : List ℕ) : Type 0 where
   pub counted : n ≤ limit + 1

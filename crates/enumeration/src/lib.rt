@@ -1,6 +1,4 @@
 // The enumeration of the source sides (the paper's near sides): a node beside the side joins it, or is left out for good.
-mod rest;
-
 use adjacency::adjacency;
 use branches::Branch;
 use edge_set::EdgeSet;
@@ -9,7 +7,7 @@ use node_set::NODE_WIDTH;
 use node_set::NODES;
 use node_set::NodeSet;
 use node_set::NodeWord;
-use rest::rest_without;
+use parts::rest_without;
 ghost use mathlib.Core.Path.{_≡_};
 ghost use mathlib.Core.Bool.{_&&_};
 ghost use mathlib.Core.List.{[], _∷_};

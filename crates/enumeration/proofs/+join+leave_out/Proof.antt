@@ -13,7 +13,8 @@ use Rattle.network.specs.declared.Network.{Network}
 use Rattle.branches.specs.declared.Branch.{Branch}
 use Rattle.branches.specs.Enumeration.{joined, leftOut, leaveOutRows}
 use Rattle.enumeration.specs.Tables.{Tables}
-use Rattle.enumeration.specs.Rows.{Fed, Whole, Hangs, Capacity, Put}
+use Rattle.parts.specs.Parts.{Hangs}
+use Rattle.enumeration.specs.Rows.{Fed, Whole, Capacity, Put}
 use Rattle.enumeration.proofs.Putting.{put-past}
 use Rattle.enumeration.proofs.Halves.{flip, sink-left, joined-fed, joined-whole, leftOut-fed, leftOut-whole, leftOut-undecided}
 use Rattle.enumeration.proofs.Halves.{whole-hangs, undecided-fewer, candidate-free, wanted-and, unwanted-or, join-half, leave-out-half, shut-put, leaf-put, split-put}

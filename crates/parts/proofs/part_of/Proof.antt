@@ -1,4 +1,4 @@
--- `rest::part_of` meets its contract. The invariant: what is not left is the spread from the lowest target on, and it has the targets that
+-- `part_of` meets its contract. The invariant: what is not left is the spread from the lowest target on, and it has the targets that
 -- are not missing. The measure is the set of nodes that are left or fresh. Assumes nothing.
 use mathlib.Core.Path.{_≡_, sym, _∙_}
 use mathlib.Core.Bool.{not, _&&_}
@@ -14,10 +14,10 @@ use Rattle.bitset.proofs.Sets.{minus-⊆}
 use Rattle.bitset.proofs.Results.{difference-minus, in-difference, in-intersection, in-union}
 use Rattle.bitset.proofs.Scans.{less-lowest, lowest-lt}
 use Rattle.node_set.specs.Width.{nodeWidth}
-use Rattle.enumeration.specs.Parts.{PartOf}
-use Rattle.enumeration.proofs.Parts.{One, lowest-one, Search, Turn, search-first, search-next, search-less, search-last}
-use Rattle.enumeration.proofs.rest.part_of.Statement.{statement}
-use Rattle.enumeration.proofs.rest.part_of.Tie as tie
+use Rattle.parts.specs.Parts.{PartOf}
+use Rattle.parts.proofs.Parts.{One, lowest-one, Search, Turn, search-first, search-next, search-less, search-last}
+use Rattle.parts.proofs.part_of.Statement.{statement}
+use Rattle.parts.proofs.part_of.Tie as tie
 
 abbrev Inv-loop : tie.InvT-loop
 Inv-loop adjacent within missing₀ fresh₀ left₀ missing fresh left =

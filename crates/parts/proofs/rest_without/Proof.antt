@@ -1,10 +1,10 @@
--- `rest::rest_without` meets its contract. The invariant: what is left of the other nodes has the sink, and no edge leads from it to what is
+-- `rest_without` meets its contract. The invariant: what is left of the other nodes has the sink, and no edge leads from it to what is
 -- lost. The measure is the set of the neighbours that are left. Assumes nothing.
 use mathlib.Core.Path.{_≡_, sym, _∙_}
 use mathlib.Core.Bool.{false}
 use Prim.Native.Nat.{ℕ, _^_}
 use borrow.Author.Needs.{needs}
-use borrow.Author.Tests.{eqb-true, eqb-false}
+use borrow.Author.Tests.{eqb-true, eqb-false, not-true}
 use denote.Floats.{passes}
 use Rattle.bitset.specs.Members.{has, _∈_, _∖_}
 use Rattle.bitset.proofs.Sets.{in-drop}
@@ -15,10 +15,9 @@ use Rattle.graph.specs.Relevant.{reachIn}
 use Rattle.spread.specs.Spread.{Reached}
 use Rattle.adjacency.specs.Adjacency.{Adjacency}
 use Rattle.adjacency.proofs.Reaching.{adjacency-mutual, reached-inside}
-use Rattle.enumeration.proofs.Halves.{flip}
-use Rattle.enumeration.proofs.Hanging.{Remains, remains-first, remains-next, near-less, part-reached, left-reached, hangs-on, hangs-all}
-use Rattle.enumeration.proofs.rest.rest_without.Statement.{statement}
-use Rattle.enumeration.proofs.rest.rest_without.Tie as tie
+use Rattle.parts.proofs.Hanging.{Remains, remains-first, remains-next, near-less, part-reached, left-reached, hangs-on, hangs-all}
+use Rattle.parts.proofs.rest_without.Statement.{statement}
+use Rattle.parts.proofs.rest_without.Tie as tie
 
 abbrev Inv-loop : tie.InvT-loop
 Inv-loop adjacent v sink left₀ slot row near₀ left near = Remains adjacent (left₀ .0) v sink (left .0) (near .0)
@@ -32,7 +31,7 @@ contains-requires c κs = search needs
 returns : tie.Need-returns Inv-loop μ-loop
 returns c M B table there hangs =
     let a = c .before .before .args in
-    let lacks : has (a .rest .0) (a .v) ≡ false = sym (c .before .contains .ensures) ∙ flip _ (c .if1 .taken) in
+    let lacks : has (a .rest .0) (a .v) ≡ false = sym (c .before .contains .ensures) ∙ not-true _ (c .if1 .taken) in
     hangs-all M B (a .rest .0) (a .v) (a .sink) hangs (λ m. rw lacks at m) there
 
 without-requires : tie.Need-without-requires Inv-loop μ-loop

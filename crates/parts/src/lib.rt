@@ -11,8 +11,7 @@ ghost use Rattle.network.specs.declared.Network.{Network};
 ghost use Rattle.graph.specs.Reach.{Bounded};
 ghost use Rattle.graph.specs.Relevant.{reachIn};
 ghost use Rattle.adjacency.specs.Adjacency.{Adjacency};
-ghost use Rattle.enumeration.specs.Parts.{PartOf};
-ghost use Rattle.enumeration.specs.Rows.{Hangs};
+ghost use Rattle.parts.specs.Parts.{PartOf, Hangs};
 
 // The nodes that hang together with the lowest target by adjacent nodes of the set: all of them, or as many as have all targets among them.
 fn part_of(adjacent: &[NodeWord; NODES], within: NodeSet, targets: NodeSet) -> NodeSet
@@ -41,12 +40,7 @@ fn part_of(adjacent: &[NodeWord; NODES], within: NodeSet, targets: NodeSet) -> N
 
 // What the sink reaches once v has joined. Before, all of the rest but v hung on it: so if the rest without v falls into parts, each of
 // them has neighbours of v.
-pub(crate) fn rest_without(
-    adjacent: &[NodeWord; NODES],
-    rest: NodeSet,
-    v: u32,
-    sink: u32,
-) -> NodeSet
+pub fn rest_without(adjacent: &[NodeWord; NODES], rest: NodeSet, v: u32, sink: u32) -> NodeSet
     requires { ⌜ v < nodeWidth ⌝ }
     ensures { λ r. ⌜ ((M : Network) → Bounded M → Adjacency M (now (adjacent .entry)) → sink ∈ (rest .0 ∖ 2 ^ v)
         → Hangs M (rest .0) v sink → r .0 ≡ reachIn M (rest .0 ∖ 2 ^ v) sink) ⌝ }

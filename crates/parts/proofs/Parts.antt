@@ -25,7 +25,7 @@ use Rattle.bitset.proofs.Scans.{Less, lowest-lt}
 use Rattle.spread.specs.Spread.{ClosedInside}
 use Rattle.spread.proofs.Rounds.{Spread, Finds, spread-first, spread-on}
 use Rattle.adjacency.specs.Adjacency.{Mutual}
-use Rattle.enumeration.specs.Parts.{Together, PartOf}
+use Rattle.parts.specs.Parts.{Together, PartOf}
 
 -- ---- what hangs together
 

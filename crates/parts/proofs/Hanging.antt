@@ -24,8 +24,7 @@ use Rattle.graph.specs.Relevant.{reachIn}
 use Rattle.branches.proofs.ReachIn.{reachIn-induct, reachIn-⊆}
 use Rattle.spread.specs.Spread.{ClosedInside, Reached}
 use Rattle.adjacency.specs.Adjacency.{Adjacency, Mutual}
-use Rattle.enumeration.specs.Parts.{PartOf}
-use Rattle.enumeration.specs.Rows.{Hangs}
+use Rattle.parts.specs.Parts.{PartOf, Hangs}
 
 -- What is left of the other nodes when some parts of them without the sink are lost, and the neighbours of v in it.
 pub record Remains (adjacent : List ℕ) (others v sink left near : ℕ) : Type 0 where

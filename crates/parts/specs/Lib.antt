@@ -1,0 +1,2 @@
+-- The definitions that the contracts of `parts` cite.
+pub mod Parts
