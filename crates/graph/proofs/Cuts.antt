@@ -3,6 +3,7 @@
 -- Assumes, where something is decided, that the edges have numbers below 64 and ends below the node count.
 use mathlib.Core.Path.{_≡_, sym}
 use mathlib.Core.Bool.{Bool, true, false, not}
+use mathlib.Core.List.{List, [], _∷_}
 use mathlib.Core.Logic.{_↔_, Dec·of-iff, Iff·symm, Iff·trans, Iff·and, Iff·not, Iff·rfl}
 use Prim.Native.Nat.{ℕ, _^_}
 use denote.Floats.{is-true, passes}
@@ -13,11 +14,11 @@ use Rattle.sequences.proofs.Words.{T-every}
 use Rattle.bitset.specs.Members.{has, _⊆_, _∖_, members, _∈_}
 use Rattle.bitset.proofs.Subsets.{⊆-trans, same-test, subset-and}
 use Rattle.sequences.proofs.Tests.{T-not, T-then, T-eqb}
-use Rattle.bitset.proofs.Sets.{∈-dec, in-and, minus-⊆, member-lt}
+use Rattle.bitset.proofs.Sets.{∈-dec, in-and, in-minus, minus-⊆, member-lt}
 use Rattle.bitset.proofs.MemberList.{in-members}
 use Rattle.network.specs.Record.{present}
 use Rattle.network.specs.declared.Network.{Network}
-use Rattle.graph.specs.Paths.{Minpath, Connected, SameMinpaths}
+use Rattle.graph.specs.Paths.{Joins, Hop, Leads, Minpath, Connected, SameMinpaths}
 use Rattle.graph.specs.Cuts.{only, without, Silenced, Cut, Mincut, HoldsMincut}
 use Rattle.graph.specs.Reach.{reachOf, Bounded}
 use Rattle.graph.specs.CutTests.{severed, cutTest, allNeeded, mincutTest, Settled}
@@ -47,6 +48,15 @@ module _ (N : Network) where
   -- What silences does so as it grows.
   pub silenced-mono : (c d : ℕ) → c ⊆ d → Silenced N c → Silenced N d
   silenced-mono c d h s = silenced-transversal d .1 (transversal-up (Minpath N) c d h (silenced-transversal c .0 s))
+
+  -- All edges together do, where source and sink differ: no step is left.
+  silenced-all : (N .source ≡ N .sink → ⊥) → Silenced N (present N)
+  unfolding Leads Joins only
+  silenced-all differ r m = go (m .steps) (m .leads)
+    where
+      go : (p : List Hop) → Leads (without N (present N)) (N .source) p (N .sink) → ⊥
+      go [] e = differ e
+      go (s ∷ p) l = let k = in-minus (present N) (present N) (s .edge) .0 (l .0 .0) in k .1 (k .0)
 
   -- A cut is a set of present edges that silences.
   cut-silenced : (c : ℕ) → Cut N c ↔ ((c ⊆ present N) × Silenced N c)
@@ -161,6 +171,10 @@ module _ (N : Network) (B : Bounded N) where
   pub severed-settled : (b : Bool) (c d : ℕ) → Settled b c d → b ≡ severed N c → b ≡ severed N d
   severed-settled true c d h e = sym (is-true (severed N d) (severed-mono c d h (passes (severed N c) (sym e))))
   severed-settled false c d h e = sym (same-test (severed N d) false (λ t. rw (← e) at (severed-mono d c h t)) absurd)
+
+  -- All edges sever.
+  pub severed-all : (N .source ≡ N .sink → ⊥) → severed N (present N) ≡ true
+  severed-all differ = is-true (severed N (present N)) (severed-silenced (present N) .1 (silenced-all N differ))
 
   -- Of a set of present edges, it tells whether it is a cut.
   pub severed-iff : (c : ℕ) → c ⊆ present N → T (severed N c) ↔ Cut N c

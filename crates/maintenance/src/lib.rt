@@ -1,6 +1,8 @@
 // Works during opening hours: how many minutes of a week lie in an opening window while the cables then out hold a minimal cut.
 // `silent_minutes` takes whatever it is given.
+use connectivity::settled;
 use connectivity::severed;
+use edge_set::EdgeSet;
 use network::Network;
 use network::refusal::TOO_MANY_WINDOWS;
 use windows::WEEK;
@@ -11,8 +13,9 @@ use windows::out_at;
 use windows::works_fault;
 ghost use mathlib.Core.Path.{_≡_};
 ghost use Rattle.network.specs.Record.{faultOf, present};
+ghost use Rattle.graph.specs.CutTests.{severed};
 ghost use Rattle.windows.specs.Windows.{Works};
-ghost use Rattle.maintenance.specs.Outage.{silentMinute, silentMinutes, outageRefusal, outageOf, OutageMeans};
+ghost use Rattle.maintenance.specs.Outage.{silentMinutes, outageRefusal, outageOf, OutageMeans};
 
 // The most windows of a kind.
 const MAX_OPENINGS: usize = 14;
@@ -25,29 +28,49 @@ pub struct Outage {
     pub minutes: u16,
 }
 
-// Whether the minute is open and the edges then out sever: at most one spread.
-fn is_silent(network: Network, openings: &[u16], works: &[u16], minute: u16) -> bool
-    requires { ⌜ (faultOf network ≡ 0) × Works (present network) (now works) ⌝ }
-    ensures { λ r. ⌜ r ≡ silentMinute network (now (openings .entry)) (now (works .entry)) minute ⌝ }
+// What is known of the room: whether it is silent while these edges are out.
+struct Room {
+    out: EdgeSet,
+    severs: bool,
+}
+
+// The same with these edges out: a spread is made only where the answer can have changed.
+fn with_out(network: Network, known: Room, out: EdgeSet) -> Room
+    requires { ⌜ (faultOf network ≡ 0) × (known .severs ≡ severed network (known .out .0)) ⌝ }
+    ensures { λ r. ⌜ (r .out ≡ out) × (r .severs ≡ severed network (out .0)) ⌝ }
 {
-    if is_open(openings, minute) {
-        severed(network, out_at(works, minute))
+    if settled(known.severs, known.out, out) {
+        Room {
+            out,
+            severs: known.severs,
+        }
     } else {
-        false
+        Room {
+            out,
+            severs: severed(network, out),
+        }
     }
 }
 
-// The silent minutes, from one change to the next.
+// The silent minutes, from one change to the next: at most one spread for each that is open. With every edge out the room is silent.
 fn sweep(network: Network, openings: &[u16], works: &[u16]) -> u16
     requires { ⌜ (faultOf network ≡ 0) × Works (present network) (now works) ⌝ }
     ensures { λ r. ⌜ r ≡ silentMinutes network (now (openings .entry)) (now (works .entry)) ⌝ }
 {
     let mut minutes = 0;
     let mut minute = 0;
+    let all = network.present;
+    let mut known = Room {
+        out: all,
+        severs: true,
+    };
     while minute < WEEK {
         let next = next_change(openings, works, minute);
-        if is_silent(network, openings, works, minute) {
-            minutes += next - minute;
+        if is_open(openings, minute) {
+            known = with_out(network, known, out_at(works, minute));
+            if known.severs {
+                minutes += next - minute;
+            }
         }
         minute = next;
     }

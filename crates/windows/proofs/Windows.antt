@@ -131,7 +131,7 @@ module _ (l : List ℕ) (m : ℕ) where
 
 -- ---- faults
 
--- A window has no fault exactly if it runs from a start to an end; otherwise it has 24.
+-- A window has no fault exactly if it keeps the rules; otherwise it has 24.
 pub window-none : (s e : ℕ) → (windowFault s e ≡ 0) ↔ Window s e
 unfolding windowFault
 window-none s e = (

@@ -13,10 +13,10 @@
 --   openingsFault o  the first fault of opening windows, 0 if they have none
 --   worksFault p w   that of works windows, where the edges p are present
 --   Window s e       the start s is below the end e, and the end not above the week's
---   Openings o       o has whole windows alone, each from a start to an end
---   Works p w        w has whole windows alone, each from a start to an end, and with an edge of p
---   BadWindow p w    the first of w that is against these rules is a piece of a window, or runs from no start to no end
---   AbsentEdge p w   the first of w that is against these rules runs from a start to an end, and its edge is not in p
+--   Openings o       o has whole windows alone, each a `Window`
+--   Works p w        w has whole windows alone, each a `Window` with an edge of p
+--   BadWindow p w    the first of w that is against these rules is a piece of a window, or no `Window`
+--   AbsentEdge p w   the first of w that is against these rules is a `Window`, and its edge is not in p
 use mathlib.Core.Bool.{Bool, false, not, _&&_, _||_}
 use mathlib.Core.List.{List, [], _∷_}
 use mathlib.Core.Logic.{_⊎_}

@@ -63,8 +63,8 @@ loop-less c = search needs
 loop-again : tie.Need-loop-again Inv-loop μ-loop
 loop-again c =
     let i = turn (c .before) in
-    let later = open-later _ _ _ (i .loop-test .taken) (sym (c .before .covers .ensures) ∙ c .if1 .left) in
-    record { place = search needs; same = sym later ∙ i .before .loop .inv .same }
+    let tested = sym (c .before .covers .ensures) ∙ c .if1 .left in
+    record { place = search needs; same = sym (open-later _ _ _ (i .loop-test .taken) tested) ∙ i .before .loop .inv .same }
 
 returns-2 : tie.Need-returns-2 Inv-loop μ-loop
 returns-2 c =
