@@ -27,9 +27,12 @@ const FORMS: &str = "a line is 'open FROM to UNTIL' or 'works FROM to UNTIL cabl
 
 const NO_START: &str =
     "is no start: a day and 0:00 to 23:59, or a minute of the week, at most 65,535";
-const NO_END: &str =
-    "is no end: a day and 0:00 to 24:00, if the start has a day another time of day \
-    alone, or a minute of the week, at most 65,535";
+
+/// Of a window that starts with a day, and of one that starts with a minute of the week. A time of
+/// either kind behind one of the other would be misread too easily, as 20 for 20:00.
+const NO_TIME: &str =
+    "is no end behind a day: a day and 0:00 to 24:00, or another time of day alone";
+const NO_MINUTE: &str = "is no end behind a minute of the week: another, at most 65,535";
 const NO_CABLE: &str = "is no cable: a number, at most 65,535";
 
 /// Minutes of the week, from the start to before the end.
@@ -136,26 +139,36 @@ fn span(words: &[&str]) -> Result<Span, String> {
     let [from, until] = times[..] else {
         return Err("not two times with one 'to' between them".to_string());
     };
-    let start = time(from, DAY - 1).ok_or_else(|| faulty(from, NO_START))?;
-    let end = match (from, until) {
-        ([_, _], [word]) if word.contains(':') => {
-            // The time of the start again may be meant for the same day or for the next.
-            let clock = clock(word, DAY).filter(|clock| *clock != start % DAY);
-            clock.map(|clock| next(start, clock))
+    match from {
+        [minute] => {
+            let start = number(minute).ok_or_else(|| faulty(from, NO_START))?;
+            let [minute] = until else {
+                return Err(faulty(until, NO_MINUTE));
+            };
+            let end = number(minute).ok_or_else(|| faulty(until, NO_MINUTE))?;
+            Ok(Span { start, end })
         }
-        _ => time(until, DAY),
-    };
-    let end = end.ok_or_else(|| faulty(until, NO_END))?;
-    Ok(Span { start, end })
+        _ => {
+            let start = time(from, DAY - 1).ok_or_else(|| faulty(from, NO_START))?;
+            let end = match until {
+                // The time of the start again may be meant for the same day or for the next.
+                [word] => clock(word, DAY)
+                    .filter(|clock| *clock != start % DAY)
+                    .map(|clock| next(start, clock)),
+                _ => time(until, DAY),
+            };
+            let end = end.ok_or_else(|| faulty(until, NO_TIME))?;
+            Ok(Span { start, end })
+        }
+    }
 }
 
-/// The minute of the week that these words are, if their time of day is not above the latest.
+/// The minute of the week of a day and a time of day, if that is not above the latest.
 fn time(words: &[&str], latest: u16) -> Option<u16> {
-    match words {
-        [name, time_of_day] => Some(day(name)? + clock(time_of_day, latest)?),
-        [minute] => number(minute),
-        _ => None,
-    }
+    let [name, time_of_day] = words else {
+        return None;
+    };
+    Some(day(name)? + clock(time_of_day, latest)?)
 }
 
 /// The minute with which the day of this name begins.
@@ -251,11 +264,9 @@ mod tests {
                 assert_eq!(minutes(&text), (start, start + 1439));
                 let text = format!("open {name} 09:05 to {name} 24:00");
                 assert_eq!(minutes(&text), (start + 545, start + 1440));
-                let text = format!("open {start} to {name} 9:05");
-                assert_eq!(minutes(&text), (start, start + 545));
             }
         }
-        assert_eq!(minutes("open Sun 23:59 to 10080"), (10079, WEEK));
+        assert_eq!(minutes("open 10079 to 10080"), (10079, WEEK));
         // Whether it is a window is not asked here.
         assert_eq!(minutes("open 65535 to 0"), (65535, 0));
         assert_eq!(minutes("open Tue 1:00 to Tue 1:00"), (1500, 1500));
@@ -326,37 +337,29 @@ mod tests {
             "until",
         ] {
             let shown = excerpt(time.as_bytes());
-            let said = format!("'{shown}' {NO_START}; ");
-            assert_eq!(fault(format!("open {time} to 3")), said);
-            assert_eq!(fault(format!("works {time} to 3 cable 0")), said);
-            let said = format!("'{shown}' {NO_END}; ");
-            assert_eq!(fault(format!("open 2 to {time}")), said);
-            assert_eq!(fault(format!("open Mon 2:00 to {time}")), said);
+            let said = |what| format!("'{shown}' {what}; ");
+            assert_eq!(fault(format!("open {time} to 3")), said(NO_START));
+            assert_eq!(fault(format!("works {time} to 3 cable 0")), said(NO_START));
+            assert_eq!(fault(format!("open 2 to {time}")), said(NO_MINUTE));
+            assert_eq!(fault(format!("open Mon 2:00 to {time}")), said(NO_TIME));
         }
         // What would do as an end.
         for start in ["Mon 24:00", "24:00", "18:00"] {
-            assert_eq!(
-                fault(format!("open {start} to 3")),
-                format!("'{start}' {NO_START}; ")
-            );
+            let said = format!("'{start}' {NO_START}; ");
+            assert_eq!(fault(format!("open {start} to 3")), said);
         }
-        for end in ["18:00", "24:00"] {
-            assert_eq!(
-                fault(format!("open 2 to {end}")),
-                format!("'{end}' {NO_END}; ")
-            );
+        // What would do behind a time of the other kind.
+        for end in ["18:00", "24:00", "Mon 18:00"] {
+            let said = format!("'{end}' {NO_MINUTE}; ");
+            assert_eq!(fault(format!("open 2 to {end}")), said);
         }
-        // The time of the start, of which day is not said.
-        for end in ["24:01", "18:00"] {
-            assert_eq!(
-                fault(format!("open Mon 18:00 to {end}")),
-                format!("'{end}' {NO_END}; ")
-            );
+        // The time of the start, of which day is not said; and 20 and 2000, which may be meant for 20:00.
+        for end in ["24:01", "18:00", "0", "20", "2000", "10080"] {
+            let said = format!("'{end}' {NO_TIME}; ");
+            assert_eq!(fault(format!("open Mon 18:00 to {end}")), said);
         }
-        assert_eq!(
-            fault("open Mon 0:00 to 00:00"),
-            format!("'00:00' {NO_END}; ")
-        );
+        let said = format!("'00:00' {NO_TIME}; ");
+        assert_eq!(fault("open Mon 0:00 to 00:00"), said);
     }
 
     #[test]
@@ -422,7 +425,7 @@ mod tests {
         assert_eq!(fault("works cable 3"), said);
         assert_eq!(
             fault("open 1 to 2 cable 3"),
-            format!("'2 cable 3' {NO_END}; ")
+            format!("'2 cable 3' {NO_MINUTE}; ")
         );
     }
 

@@ -31,13 +31,11 @@ pub fn run(plan_file: &OsStr, schedule_file: &OsStr) -> io::Result<Status> {
             return Ok(Status::Unread);
         }
     };
-    for window in &written {
-        if let [first, second] = &window.parts()[..] {
-            let (line, first, second) = (window.line, first.span, second.span);
-            say(format_args!(
-                "{name}: line {line}: split at the week's end: {first} and {second}"
-            ));
-        }
+    // Of windows that are too many as they are written none is looked at.
+    let too_many = Err(Refusal::TooManyWindows);
+    let many_written = ask(&plan, &written) == too_many;
+    if !many_written {
+        say_changes(&name, &written);
     }
     let given = given(&written);
     match ask(&plan, &given) {
@@ -46,7 +44,7 @@ pub fn run(plan_file: &OsStr, schedule_file: &OsStr) -> io::Result<Status> {
             answer::tell(&name, "", lines.map(Answer::Given))
         }
         Err(refusal) => {
-            if refusal == Refusal::TooManyWindows && ask(&plan, &written) != Err(refusal) {
+            if Err(refusal) == too_many && !many_written {
                 let (written, given) = (counts(&written), counts(&given));
                 say(format_args!(
                     "{name}: {written} are written; split at the week's end they are {given}"
@@ -57,6 +55,27 @@ pub fn run(plan_file: &OsStr, schedule_file: &OsStr) -> io::Result<Status> {
                 None => name,
             };
             answer::tell(&place, "", Answer::<String>::of(Err(refusal)))
+        }
+    }
+}
+
+/// Says which windows the library is given in another way than they are written.
+fn say_changes(name: &str, written: &[Window]) {
+    for window in written {
+        let line = window.line;
+        match &window.parts()[..] {
+            [part] if part == window => (),
+            [part] => say(format_args!(
+                "{name}: line {line}: ends with the week: {}",
+                part.span
+            )),
+            parts => {
+                let spans: Vec<String> = parts.iter().map(|part| part.span.to_string()).collect();
+                let spans = spans.join(" and ");
+                say(format_args!(
+                    "{name}: line {line}: split at the week's end: {spans}"
+                ));
+            }
         }
     }
 }

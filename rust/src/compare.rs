@@ -151,7 +151,7 @@ pub fn silent_minutes(
     works: &[u16],
     is_cut: impl Fn(u64) -> bool,
 ) -> (u8, u16) {
-    let expected = reference::silent_minutes(record, openings, works);
+    let expected = reference::out_while_open(record, openings, works);
     let number = reference::number(&expected);
     let outs = expected.unwrap_or_default();
     // Minutes in a row with the same cables out are judged together.

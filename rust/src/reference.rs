@@ -160,7 +160,7 @@ pub fn replay(record: &Record, log: &[u8], room: usize) -> Result<Vec<u64>, Refu
 }
 
 /// The sets of cables that are out in each open minute of a week, one minute after the other.
-pub fn silent_minutes(
+pub fn out_while_open(
     record: &Record,
     openings: &[u16],
     works: &[u16],

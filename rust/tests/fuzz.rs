@@ -598,7 +598,7 @@ fn settings_mean_what_they_say() {
     assert_eq!((week.openings.len(), week.works.len()), (31, 52));
     let whole = week.whole();
     assert_eq!((whole.openings.len(), whole.works.len()), (28, 48));
-    let outs = reference::silent_minutes(&halls::bridge(), &whole.openings, &whole.works);
+    let outs = reference::out_while_open(&halls::bridge(), &whole.openings, &whole.works);
     assert!(outs.is_ok(), "{whole:?}");
     bytes[15..17].copy_from_slice(&[32 + 28, 53 + 48]);
     assert_eq!(Case::of(&bytes).week, whole);

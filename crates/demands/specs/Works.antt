@@ -1,8 +1,7 @@
 -- Works during opening hours: which minutes the call counts, over every schedule, and what windows hold.
 -- To believe.
 --
---   OpenWhile N o w P    P of the edges out in each minute of exactly as many open minutes of the week as the call gives for N, openings o
---                        and works w
+--   OpenWhile N o w P    P holds of the edges out in exactly as many open minutes of the week as the call gives for N, openings o and works w
 --   WorksCounted         the minutes, both ways of saying which, and by the list call's rows; what a window opens and takes out
 use mathlib.Core.List.{List, [], _∷_}
 use mathlib.Core.Logic.{_⊎_, _↔_}

@@ -28,6 +28,7 @@ use Rattle.windows.specs.Windows.{week, isOpen, outAt, openingCount, worksCount
 use Rattle.maintenance.specs.Outage.{silentMinute, silentMinutes, tooMany, outageRefusal, outageOf, WindowRules, Minutes, OutageMeans}
 use Rattle.sequences.proofs.Ranges.{mem-range, range-rising, length-passing}
 use Rattle.windows.proofs.Windows.{openings-rules, works-rules}
+use Rattle.windows.proofs.Times.{left, left-61}
 
 -- ---- the ways out
 
@@ -99,6 +100,10 @@ module _ (N : Network) (o w : List ℕ) where
         refusal-works (fault-rules N .1 (k .0)) (few o w .1 (rules .few-openings, rules .few-works)) (openings-rules o .1 (rules .openings))
         ∙ works-rules (present N) w .1 (rules .works),
   )
+
+-- Where nothing is refused, at most 61 changes are left at any minute: the measure of the loop over the week, and so its turns.
+pub turns-61 : (N : Network) (o w : List ℕ) → outageRefusal N o w ≡ 0 → (m : ℕ) → left o w m ≤ 61
+turns-61 N o w none = let rules = outage-none N o w .0 none .1 in left-61 o w (rules .few-openings) (rules .few-works)
 
 -- ---- what the minutes mean
 

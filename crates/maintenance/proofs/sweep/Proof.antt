@@ -1,5 +1,6 @@
 -- `sweep` meets its contract. The invariant is the turn of a stretch: the silent minutes before it are counted, and what is known holds.
--- The measure is how many changes are left: at most 61, so that there are at most 61 turns (`left-61`). Assumes nothing.
+-- The measure is how many changes are left, so that there are no more turns: of windows that are not too many, at most 61 (`turns-61`,
+-- Meaning). Assumes nothing.
 use mathlib.Core.Path.{_≡_, sym, ap, _∙_}
 use Prim.Native.Nat.{_<_}
 use native.Mathlib.Omega.{arith}
