@@ -1,7 +1,7 @@
 -- The customer's three demands, as statements about the calls. What a call answers and leaves is what its contract says: `decodeOf`,
 -- `faultOf`, `relevantOf`, `verdictOf`, `totalOf`, `widthsOf`, `outageOf`, `listedBy` and `trimmedListedBy` with the rows afterwards,
--- `replayedBy` and `encodedBy` with the bytes afterwards, and `reportOf` of the program. What the types of the code say of any record, `Stored N`, is in the
--- contract of every call that takes one, and what they say of any bytes, `Bytes s`, in that of the reader.
+-- `replayedBy` and `encodedBy` with the bytes afterwards, and `reportOf` of the program. What the types of the code say of any record,
+-- `Stored N`, is in the contract of every call that takes one, and what they say of any bytes, `Bytes s`, in that of the reader.
 -- To believe.
 --
 --   DemandOne        every call ends with the complete result or with the refusal that its own condition calls for
