@@ -3,16 +3,17 @@
 use mathlib.Core.Path.{_≡_, refl, sym, _∙_}
 use mathlib.Core.Bool.{Bool, true, false, not, _&&_, _||_, and-comm, and-true, and-false, or-false}
 use Prim.Native.Nat.{ℕ, _-_, _*_, _/_, _%_, _^_, _≤_, _<_}
-use native.Mathlib.Nat.{one-mul, mod-eq-of-lt, mod-lt}
+use native.Mathlib.Nat.{zero-mul, one-mul, mod-eq-of-lt, mod-lt}
 use native.Mathlib.Omega.{arith}
 use borrow.Author.Tests.{eqb-true, eqb-false, ltb-false, lt-ltb, le-ltb}
 use lib.Arith.{lt-of-le-ne}
-use lib.Bits.{bitAnd, bitOr, and-mask}
+use lib.Bits.{bitAnd, bitOr, and-mask, or-zero-r}
 use lib.Dec.{eqb, ltb, ltb→lt, lt→ltb}
 use lib.Pow.{pow-lt, pow-pos}
+use mir.Val.{boolByte}
 use Rattle.bitset.specs.Decides.{Decides}
-use Rattle.bitset.specs.Members.{has, _⊆_, Lowest}
-use Rattle.bitset.proofs.Members.{has-bounded, same-members-below, has-zero, has-power, has-and, has-or, has-complement, has-ones, eqb-cases}
+use Rattle.bitset.specs.Members.{has, _⊆_, addIf, Lowest}
+use Rattle.bitset.proofs.Members.{has-bounded, same-members-below, has-zero, has-power, has-and, has-or, has-complement, has-ones, insert-or, eqb-cases}
 use Rattle.bitset.proofs.Subsets.{and-absorb, subset-and}
 use Rattle.bitset.proofs.Size.{lowest-none, has-without-lowest}
 
@@ -52,6 +53,12 @@ contains-test s k = rw (and-mask (s / 2 ^ k) 1)
 -- To join a shifted 1 is to insert k.
 pub has-with : (w s k : ℕ) → k < w → (j : ℕ) → has (bitOr s ((1 * 2 ^ k) % 2 ^ w)) j ≡ has s j || (eqb j k && ltb k w)
 has-with w s k h j = rw (has-or s ((1 * 2 ^ k) % 2 ^ w) j, has-single w k h j)
+
+-- To join a bit shifted by k is to insert k if the bit is set.
+pub or-addIf : (w : ℕ) (b : Bool) (s k : ℕ) → k < w → bitOr s (boolByte b * 2 ^ k % 2 ^ w) ≡ addIf b s k
+unfolding addIf
+or-addIf w true s k h = rw (shifted w k h) (sym (insert-or s k))
+or-addIf w false s k h = rw (zero-mul (2 ^ k), mod-eq-of-lt (pow-pos w)) (or-zero-r s)
 
 -- Past the width nothing is inserted.
 pub has-with-past : (w s k : ℕ) → w ≤ k → (j : ℕ) → has s j ≡ has s j || (eqb j k && ltb k w)

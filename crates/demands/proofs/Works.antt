@@ -8,8 +8,9 @@ use Prim.Native.Nat.{ℕ, zero, suc, _≤_, _<_}
 use borrow.Author.Tests.{ltb-true, leb-true, lt-ltb, le-leb}
 use denote.Floats.{passes, is-true}
 use lib.Dec.{T, leb, ltb}
+use Rattle.sequences.specs.Counts.{Exactly}
 use Rattle.sequences.proofs.Tests.{T-or, T-and}
-use Rattle.sequences.proofs.Ranges.{count-steady}
+use Rattle.sequences.proofs.Ranges.{count-steady, exactly-same}
 use Rattle.bitset.specs.Members.{_∈_}
 use Rattle.bitset.proofs.Sets.{not-zero}
 use Rattle.bitset.proofs.Subsets.{zero-⊆}
@@ -20,24 +21,12 @@ use Rattle.graph.specs.Cuts.{HoldsMincut}
 use Rattle.graph.proofs.Cuts.{mincut-none}
 use Rattle.listing.specs.List.{cutRowsAfter}
 use Rattle.windows.specs.Windows.{week, covers, isOpen, outAt}
-use Rattle.maintenance.specs.Outage.{silentMinute, silentMinutes, outageRefusal, outageOf, Minutes, OutageMeans}
+use Rattle.maintenance.specs.Outage.{silentMinute, silentMinutes, outageRefusal, outageOf, OutageMeans}
 use Rattle.windows.proofs.Windows.{in-out}
 use Rattle.maintenance.proofs.Meaning.{outage-means}
 use Rattle.demands.specs.Works.{OpenWhile, WorksCounted}
 use Rattle.demands.proofs.DemandTwo.{demand-two}
 use Rattle.demands.proofs.Replay.{holds-row}
-
--- Minutes of which one holds exactly if the other does are as many.
-same-minutes : {P Q : ℕ → Type 0} {n : ℕ} → ((m : ℕ) → P m ↔ Q m) → Minutes P n → Minutes Q n
-same-minutes same k = record {
-  list = k .list;
-  rising = k .rising;
-  members = λ m. let there = k .members m in (
-    λ i. let p = there .0 i in (p .0, same m .0 (p .1)),
-    λ q. there .1 (q .0, same m .1 (q .1)),
-  );
-  count = k .count;
-}
 
 module _ (N : Network) (stored : Stored N) (o w : List ℕ) (none : outageOf N o w .refusal ≡ 0) where
   means : OutageMeans N o w (outageOf N o w .refusal) (outageOf N o w .minutes)
@@ -45,12 +34,12 @@ module _ (N : Network) (stored : Stored N) (o w : List ℕ) (none : outageOf N o
 
   -- What is the same of the edges out.
   while : {P : ℕ → Type 0} → ((d : ℕ) → HoldsMincut N d ↔ P d) → OpenWhile N o w P
-  while same = same-minutes (λ m. (λ k. (k .0, same (outAt w m) .0 (k .1)), λ k. (k .0, same (outAt w m) .1 (k .1)))) (means .cut none)
+  while same = exactly-same (λ m. (λ k. (k .0, same (outAt w m) .0 (k .1)), λ k. (k .0, same (outAt w m) .1 (k .1)))) (means .cut none)
 
   -- The empty mincut is always out.
-  no-route : ((r : ℕ) → Minpath N r → ⊥) → Minutes (λ m. T (isOpen o m)) (outageOf N o w .minutes)
+  no-route : ((r : ℕ) → Minpath N r → ⊥) → Exactly week (λ m. T (isOpen o m)) (outageOf N o w .minutes)
   no-route apart =
-      same-minutes (λ m. (λ k. k .0, λ t. (t, (0, (mincut-none N apart 0 .1 refl, zero-⊆ (outAt w m)))))) (means .cut none)
+      exactly-same (λ m. (λ k. k .0, λ t. (t, (0, (mincut-none N apart 0 .1 refl, zero-⊆ (outAt w m)))))) (means .cut none)
 
 -- A closed minute does not count.
 never : (N : Network) (w : List ℕ) → silentMinutes N [] w ≡ 0

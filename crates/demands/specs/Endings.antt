@@ -45,8 +45,9 @@ use Rattle.replay.specs.declared.Replayed.{Replayed}
 use Rattle.replay.specs.Log.{eventCount, edgeAt, downAfter, Command, GoodEvents, LogRules}
 use Rattle.replay.specs.Replay.{Tells}
 use Rattle.maintenance.specs.declared.Outage.{Outage}
-use Rattle.windows.specs.Windows.{isOpen, outAt, openingCount, worksCount, Openings, BadWindow, AbsentEdge}
-use Rattle.maintenance.specs.Outage.{WindowRules, Minutes}
+use Rattle.sequences.specs.Counts.{Exactly}
+use Rattle.windows.specs.Windows.{week, isOpen, outAt, openingCount, worksCount, Openings, BadWindow, AbsentEdge}
+use Rattle.maintenance.specs.Outage.{WindowRules}
 use Rattle.text.specs.Text.{refusalLine, listText, maxRows}
 
 -- A plan within the rules is read; any other bytes are refused with one of the reader's numbers, beside the all-zero record.
@@ -115,7 +116,7 @@ pub data ReplayEnds (N : Network) (log lent : List ℕ) : Replayed → List ℕ 
 -- The open minutes in which the edges out hold a minimal cut; 23 for too many windows of either kind; then the first window that is
 -- against the rules decides, opening windows before works windows, and of a works window 24 before 17. On refusal the minutes are 0.
 pub data OutageEnds (N : Network) (o w : List ℕ) : Outage → Type 0 where
-  counted : (n : ℕ) → Rules N → WindowRules (present N) o w → Minutes (λ m. T (isOpen o m) × HoldsMincut N (outAt w m)) n
+  counted : (n : ℕ) → Rules N → WindowRules (present N) o w → Exactly week (λ m. T (isOpen o m) × HoldsMincut N (outAt w m)) n
       → OutageEnds N o w (record { refusal = 0; minutes = n })
   faulty : 0 < faultOf N → OutageEnds N o w (record { refusal = faultOf N; minutes = 0 })
   many : Rules N → (14 < openingCount o) ⊎ (16 < worksCount w) → OutageEnds N o w (record { refusal = 23; minutes = 0 })

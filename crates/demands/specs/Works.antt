@@ -9,17 +9,18 @@ use mathlib.Core.Path.{_≡_}
 use Prim.Native.Nat.{ℕ, _≤_, _<_}
 use lib.Dec.{T}
 use lib.ListN.{getD}
+use Rattle.sequences.specs.Counts.{Exactly}
 use Rattle.bitset.specs.Members.{_⊆_, _∈_}
 use Rattle.network.specs.declared.Network.{Network}
 use Rattle.network.specs.Record.{Stored}
 use Rattle.graph.specs.Paths.{Minpath}
 use Rattle.graph.specs.Cuts.{Silenced, HoldsMincut}
 use Rattle.listing.specs.List.{listedBy, cutRowsAfter}
-use Rattle.windows.specs.Windows.{isOpen, outAt}
-use Rattle.maintenance.specs.Outage.{outageOf, Minutes}
+use Rattle.windows.specs.Windows.{week, isOpen, outAt}
+use Rattle.maintenance.specs.Outage.{outageOf}
 
 abbrev pub OpenWhile : Network → List ℕ → List ℕ → (ℕ → Type 0) → Type 0
-OpenWhile N o w P = Minutes (λ m. T (isOpen o m) × P (outAt w m)) (outageOf N o w .minutes)
+OpenWhile N o w P = Exactly week (λ m. T (isOpen o m) × P (outAt w m)) (outageOf N o w .minutes)
 
 pub record WorksCounted : Type 0 where
   -- Over every schedule that is not refused: the open minutes in which the edges out hold a minimal cut, which are those in which no route
@@ -31,7 +32,7 @@ pub record WorksCounted : Type 0 where
       → OpenWhile N o w (λ d. (j : ℕ) × (j < listedBy N cuts sides .count) × (getD (cutRowsAfter N cuts sides) j 0 ⊆ d))
   -- Without a route every open minute counts, and without opening windows none does.
   pub no-route : (N : Network) → Stored N → (o w : List ℕ) → outageOf N o w .refusal ≡ 0 → ((r : ℕ) → Minpath N r → ⊥)
-      → Minutes (λ m. T (isOpen o m)) (outageOf N o w .minutes)
+      → Exactly week (λ m. T (isOpen o m)) (outageOf N o w .minutes)
   pub closed : (N : Network) (w : List ℕ) → outageOf N [] w .minutes ≡ 0
   -- A window holds its start and not its end; without windows nothing is open and nothing out.
   pub opens : (s e : ℕ) (o : List ℕ) (m : ℕ) → T (isOpen (s ∷ e ∷ o) m) ↔ (((s ≤ m) × (m < e)) ⊎ T (isOpen o m))

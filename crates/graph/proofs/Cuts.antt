@@ -164,7 +164,7 @@ module _ (N : Network) (B : Bounded N) where
       (Iff·trans (Iff·not (in-reach-single (without N d) B′ (N .source) (N .sink))) (Iff·symm (silenced-connected N d)))
 
   -- What severs does so as it grows.
-  severed-mono : (c d : ℕ) → c ⊆ d → T (severed N c) → T (severed N d)
+  pub severed-mono : (c d : ℕ) → c ⊆ d → T (severed N c) → T (severed N d)
   severed-mono c d h t = severed-silenced d .1 (silenced-mono N c d h (severed-silenced c .0 t))
 
   -- So what severs and has grown severs, and what does not and has shrunk does not.

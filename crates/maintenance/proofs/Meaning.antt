@@ -4,15 +4,14 @@ use mathlib.Core.Bool.{true, false, _||_}
 use mathlib.Core.List.{List}
 use mathlib.Core.Logic.{_⊎_, inl, inr, _↔_}
 use mathlib.Core.Path.{_≡_, refl, sym, ap, _∙_}
-use Prim.Native.Nat.{ℕ, _≤_, _<_, zero-le}
+use Prim.Native.Nat.{ℕ, _≤_, _<_}
 use native.Mathlib.Decide.{ℕ-discrete}
 use native.Mathlib.Omega.{arith}
 use borrow.Author.Tests.{ltb-false, lt-ltb, le-ltb}
 use denote.Floats.{passes, is-true}
 use lib.Dec.{T, ltb}
-use Rattle.sequences.specs.Words.{range, passing}
+use Rattle.sequences.specs.Counts.{Exactly}
 use Rattle.sequences.proofs.Tests.{T-and, T-or}
-use Rattle.sequences.proofs.Words.{mem-passing, passing-rising}
 use Rattle.network.specs.declared.Network.{Network}
 use Rattle.network.specs.Record.{_when_, _then_, faultOf, present, Stored}
 use Rattle.network.specs.Rules.{Rules}
@@ -25,8 +24,8 @@ use Rattle.graph.proofs.Cuts.{severed-silenced, holds-silenced}
 use Rattle.graph.proofs.Sound.{accepted-sound}
 use Rattle.maintenance.specs.declared.Outage.{Outage}
 use Rattle.windows.specs.Windows.{week, isOpen, outAt, openingCount, worksCount, openingsFault, worksFault}
-use Rattle.maintenance.specs.Outage.{silentMinute, silentMinutes, tooMany, outageRefusal, outageOf, WindowRules, Minutes, OutageMeans}
-use Rattle.sequences.proofs.Ranges.{mem-range, range-rising, length-passing}
+use Rattle.maintenance.specs.Outage.{silentMinute, silentMinutes, tooMany, outageRefusal, outageOf, WindowRules, OutageMeans}
+use Rattle.sequences.proofs.Ranges.{exactly-counted}
 use Rattle.windows.proofs.Windows.{openings-rules, works-rules}
 use Rattle.windows.proofs.Times.{left, left-61}
 
@@ -120,27 +119,15 @@ module _ (N : Network) (stored : Stored N) (ok : faultOf N ≡ 0) (o w : List �
       (λ t. (both .0 t .0, cut .0 (both .0 t .1)), λ k. both .1 (k .0, cut .1 (k .1)))
 
   -- so the minutes of which this holds are as many as are counted.
-  pub minutes-right : (P : ℕ → Type 0) → ((m : ℕ) → T (silentMinute N o w m) ↔ P m) → Minutes P (silentMinutes N o w)
+  pub minutes-right : (P : ℕ → Type 0) → ((m : ℕ) → T (silentMinute N o w m) ↔ P m) → Exactly week P (silentMinutes N o w)
   unfolding silentMinutes
-  minutes-right P right =
-      let silent = silentMinute N o w in
-      record {
-        list = passing silent (range 0 week);
-        rising = passing-rising silent (range 0 week) (range-rising 0 week);
-        members = λ m.
-            let there = mem-passing silent (range 0 week) m in
-            let numbers = mem-range 0 week m in (
-              λ i. let k = there .0 i in (numbers .0 (k .0) .1, right m .0 (k .1)),
-              λ k. there .1 (numbers .1 (zero-le, k .0), right m .1 (k .1)),
-            );
-        count = length-passing silent (range 0 week);
-      }
+  minutes-right P right = exactly-counted (silentMinute N o w) week P right
 
   -- Both ways.
-  silent-routes : Minutes (λ m. T (isOpen o m) × Silenced N (outAt w m)) (silentMinutes N o w)
+  silent-routes : Exactly week (λ m. T (isOpen o m) × Silenced N (outAt w m)) (silentMinutes N o w)
   silent-routes = minutes-right _ silent-minute
 
-  silent-cut : Minutes (λ m. T (isOpen o m) × HoldsMincut N (outAt w m)) (silentMinutes N o w)
+  silent-cut : Exactly week (λ m. T (isOpen o m) × HoldsMincut N (outAt w m)) (silentMinutes N o w)
   silent-cut = minutes-right _ (λ m.
       let routes = silent-minute m in
       let cut = holds-silenced N B (outAt w m) in

@@ -7,18 +7,15 @@
 --   outageRefusal N o w      the call's refusal for a network, opening windows and works windows, 0 if there is none
 --   outageOf N o w           its answer
 --   WindowRules p o w        the rules of both kinds of windows, where the edges p are present
---   Minutes P n              P holds in exactly n minutes of the week
 --   OutageMeans N o w r n    what it means that the call gave the refusal r and the minutes n
 use mathlib.Core.Bool.{Bool, _&&_, _||_}
-use mathlib.Core.List.{List, List·Memᴰ}
+use mathlib.Core.List.{List}
 use mathlib.Core.Logic.{_↔_}
 use mathlib.Core.Path.{_≡_}
-use Prim.Native.Nat.{ℕ, _≤_, _<_}
+use Prim.Native.Nat.{ℕ, _≤_}
 use lib.Dec.{T, ltb}
-use lib.ListN.{length}
 use Rattle.sequences.specs.Words.{range}
-use Rattle.sequences.specs.Counts.{countIf}
-use Rattle.sequences.specs.Rising.{Rising}
+use Rattle.sequences.specs.Counts.{countIf, Exactly}
 use Rattle.network.specs.declared.Network.{Network}
 use Rattle.network.specs.Record.{_when_, _then_, unlessRefused, faultOf, present, Stored}
 use Rattle.network.specs.Rules.{Rules}
@@ -50,18 +47,11 @@ pub record WindowRules (p : ℕ) (o w : List ℕ) : Type 0 where
   pub openings : Openings o
   pub works : Works p w
 
--- They are the members of a list, each once, as many as it is long.
-pub record Minutes (P : ℕ → Type 0) (n : ℕ) : Type 0 where
-  pub list : List ℕ
-  pub rising : Rising list
-  pub members : (m : ℕ) → List·Memᴰ m list ↔ ((m < week) × P m)
-  pub count : length list ≡ n
-
 -- By the definitions of graph theory, both ways: the edges then out hold a minimal cut, and no route is left without them.
 pub record OutageMeans (N : Network) (o w : List ℕ) (r n : ℕ) : Type 0 where
   pub stored : Stored N
   -- Nothing is refused exactly if the record and the windows keep the rules.
   pub kept : (r ≡ 0) ↔ (Rules N × WindowRules (present N) o w)
-  pub cut : r ≡ 0 → Minutes (λ m. T (isOpen o m) × HoldsMincut N (outAt w m)) n
-  pub routes : r ≡ 0 → Minutes (λ m. T (isOpen o m) × Silenced N (outAt w m)) n
+  pub cut : r ≡ 0 → Exactly week (λ m. T (isOpen o m) × HoldsMincut N (outAt w m)) n
+  pub routes : r ≡ 0 → Exactly week (λ m. T (isOpen o m) × Silenced N (outAt w m)) n
   pub refused : (r ≡ 0 → ⊥) → n ≡ 0

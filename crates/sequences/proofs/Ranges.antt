@@ -1,18 +1,21 @@
--- The numbers from one on: which they are, that they rise, and how many of them pass a test.
+-- The numbers from one on: which they are, that they rise, and how many of them pass a test, or have what it tells.
 -- Assumes nothing.
 use mathlib.Core.Path.{_≡_, refl, ap, ap₂, _∙_}
 use mathlib.Core.Bool.{Bool, true, false, cond}
 use mathlib.Core.List.{List, [], _∷_, _++_, Pairwise·nil, Pairwise·cons, List·Memᴰ, List·Memᴰ·head, List·Memᴰ·tail, List·Memᴰ·not-nil, List·Memᴰ·cases-cons}
 use mathlib.Core.Logic.{inl, inr, _↔_, ∥∥₁-elim}
-use Prim.Native.Nat.{ℕ, zero, suc, _+_, _-_, _≤_, _<_}
+use Prim.Native.Nat.{ℕ, zero, suc, _+_, _-_, _≤_, _<_, zero-le}
+use native.Mathlib.Nat.{zero-add, suc-add, not-suc-le-zero}
 use native.Mathlib.Bridge.{le-prop}
 use native.Mathlib.Decide.{ℕ-discrete}
 use native.Mathlib.Omega.{arith}
+use lib.Dec.{T}
 use lib.ListN.{length}
 use Rattle.sequences.specs.Rising.{Rising}
 use Rattle.sequences.specs.Words.{range, passing}
-use Rattle.sequences.specs.Counts.{countIf}
+use Rattle.sequences.specs.Counts.{countIf, Exactly}
 use Rattle.sequences.proofs.Counts.{count-nil, count-cons, count-append}
+use Rattle.sequences.proofs.Words.{mem-passing, passing-rising}
 
 -- There are n of them,
 pub length-range : (k n : ℕ) → length (range k n) ≡ n
@@ -86,3 +89,62 @@ module _ (p : ℕ → Bool) where
       ∙ ap (countIf p) (range-append 0 k (n - k))
       ∙ count-append p (range 0 k) (range (0 + k) (n - k))
       ∙ ap (λ c. countIf p (range 0 k) + c) (ap (λ j. countIf p (range j (n - k))) start ∙ later)
+
+  -- What the test tells holds of exactly as many numbers as are counted.
+  pub exactly-counted : (w : ℕ) (P : ℕ → Type 0) → ((m : ℕ) → T (p m) ↔ P m) → Exactly w P (countIf p (range 0 w))
+  exactly-counted w P right = record {
+    list = passing p (range 0 w);
+    rising = passing-rising p (range 0 w) (range-rising 0 w);
+    members = λ m.
+        let there = mem-passing p (range 0 w) m in
+        let numbers = mem-range 0 w m in (
+          λ i. let k = there .0 i in (omega (arith, numbers .0 (k .0) .1), right m .0 (k .1)),
+          λ k. there .1 (numbers .1 (zero-le, omega (arith, k .0)), right m .1 (k .1)),
+        );
+    count = length-passing (range 0 w);
+  }
+
+  -- A test that stays passed once it is passed is passed by the last ones.
+  module _ (stays : (i : ℕ) → T (p i) → T (p (suc i))) where
+    stays-passed : (i d : ℕ) → T (p i) → T (p (d + i))
+    stays-passed i zero t = rw (zero-add i) t
+    stays-passed i (suc d) t = rw (suc-add d i) (stays (d + i) (stays-passed i d t))
+
+    pub count-last : (n i : ℕ) → i < n → T (p i) ↔ (n < suc i + countIf p (range 0 n))
+    count-last zero i h = absurd (not-suc-le-zero h)
+    count-last (suc n) i h = go (p n) refl (count-on (p n) n (suc n) (omega arith) here) (count-last n i)
+      where
+        failed : (b : Bool) → (T b → ⊥) → b ≡ false
+        failed true f = absurd (f tt)
+        failed false f = refl
+
+        here : (j : ℕ) → n ≤ j → j < suc n → p j ≡ p n
+        here j h l = let at : j ≡ n = omega arith in ap p at
+
+        go : (b : Bool) → p n ≡ b → countIf p (range 0 (suc n)) ≡ countIf p (range 0 n) + cond b (suc n - n) 0
+            → (i < n → T (p i) ↔ (n < suc i + countIf p (range 0 n)))
+            → T (p i) ↔ (suc n < suc i + countIf p (range 0 (suc n)))
+        go true e more earlier = elim (ℕ-discrete i n) [
+          | yes at ↦ (λ t. omega arith, λ l. rw (at, e) tt)
+          | no off ↦
+              let before = earlier (omega arith) in
+              (λ t. let l = before .0 t in omega arith, λ l. before .1 (omega arith))
+        ]
+        go false e more earlier =
+            let not-yet : (j : ℕ) → j ≤ n → p j ≡ false = λ j l. failed (p j) (λ t.
+            let apart : n - j + j ≡ n = omega arith in
+            rw (apart, e) at (stays-passed j (n - j) t)) in
+            let none = count-steady false 0 n (λ j h l. not-yet j (omega arith)) in
+            (λ t. absurd (rw (not-yet i (omega arith)) at t), λ l. absurd (omega arith))
+
+-- What holds of the same numbers holds of as many.
+pub exactly-same : {w : ℕ} {P Q : ℕ → Type 0} {n : ℕ} → ((m : ℕ) → P m ↔ Q m) → Exactly w P n → Exactly w Q n
+exactly-same same k = record {
+  list = k .list;
+  rising = k .rising;
+  members = λ m. let there = k .members m in (
+    λ i. let p = there .0 i in (p .0, same m .0 (p .1)),
+    λ q. there .1 (q .0, same m .1 (q .1)),
+  );
+  count = k .count;
+}
