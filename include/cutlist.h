@@ -15,7 +15,7 @@
  *
  * Fill in both ends of every cable present: one whose ends are left 0 is no fault but a loop at point
  * 0, and is in no cut of the list. Metres change no useful part, no verdict, no list, no width, no
- * count of minutes and nothing that is written for a log.
+ * count of minutes, no drill and nothing that is written for a log.
  *
  * struct cutlist_plan holds the fields together, and for each function that takes them one by one
  * there is an inline function that takes the struct: cutlist_plan_fault for cutlist_fault. A call of
@@ -80,6 +80,9 @@ extern "C" {
 #define CUTLIST_MOST_OPENINGS 14
 #define CUTLIST_MOST_WORKS 16
 
+/* The most steps of a drill. */
+#define CUTLIST_MOST_STEPS 65535
+
 /* Bytes of stack that suffice for every call. */
 #define CUTLIST_STACK_BYTES 61440
 
@@ -108,6 +111,9 @@ enum cutlist_refusal {
     /* By the one who planned the week. */
     CUTLIST_TOO_MANY_WINDOWS = 23,      /* more than 14 opening windows, or more than 16 works windows */
     CUTLIST_BAD_WINDOW = 24,            /* a window whose start is not below its end or whose end is above 10,080, or a piece of one */
+
+    /* By the one who set the drill. */
+    CUTLIST_TOO_MANY_STEPS = 25,        /* more than 65,535 steps */
 
     /* By the program that calls. */
     CUTLIST_ROWS_DIFFER = 11,           /* cut rows and side rows differ in number */
@@ -337,6 +343,42 @@ uint8_t cutlist_silent_minutes(
     uint16_t *minutes);
 
 /*
+ * Drills a hall with drawn failures. Each draw replaces the number, at first the start number, by the
+ * remainder by 2^64 of itself times 6364136223846793005 plus 1442695040888963407, and is the top 8
+ * bits of that: 0 to 255. All cables start up. In each step every cable present, in rising order,
+ * takes one draw, whether it is up or down: if it is up it fails where the draw is below the failure
+ * setting, and if it is down it is repaired where the draw is below the repair setting. So the final
+ * number does not depend on the settings. A step counts if it ends with a minimal cut wholly down,
+ * which is without a route among the cables that are up.
+ *
+ * In a plan without a route every step counts. In one with a route none does at failure setting 0; at
+ * repair setting 0 those that count are the last ones.
+ *
+ * Refusals, in this order: those of cutlist_fault; 25 for more than CUTLIST_MOST_STEPS steps.
+ *
+ *   start    the start number
+ *   failure  the failure setting: of 256 draws so many let a cable that is up fail
+ *   repair   the repair setting: of 256 draws so many let a cable that is down be repaired
+ *   steps    how many steps there are
+ *   silent   out: how many steps count; 0 on refusal
+ *   number   out: the final number, the start number if nothing was drawn; 0 on refusal
+ */
+uint8_t cutlist_simulate(
+    uint8_t nodes,
+    uint8_t source,
+    uint8_t sink,
+    uint64_t present,
+    const uint8_t first[CUTLIST_SLOTS],
+    const uint8_t second[CUTLIST_SLOTS],
+    const uint16_t metres[CUTLIST_SLOTS],
+    uint64_t start,
+    uint8_t failure,
+    uint8_t repair,
+    uint64_t steps,
+    uint64_t *silent,
+    uint64_t *number);
+
+/*
  * Counts the rows of a list by width. The width of a row is the number of different pairs of points
  * that its cables join, whichever end comes first: cables between the same two points count once, and
  * so do loops at one point. Any rows are counted, whether they are cuts or not: one that holds a single
@@ -479,6 +521,19 @@ static inline uint8_t cutlist_plan_silent_minutes(
 {
     return cutlist_silent_minutes(
         CUTLIST_FIELDS(plan), openings, openings_length, works, works_length, minutes);
+}
+
+/* Drills a hall with drawn failures, as cutlist_simulate does. */
+static inline uint8_t cutlist_plan_simulate(
+    const struct cutlist_plan *plan,
+    uint64_t start,
+    uint8_t failure,
+    uint8_t repair,
+    uint64_t steps,
+    uint64_t *silent,
+    uint64_t *number)
+{
+    return cutlist_simulate(CUTLIST_FIELDS(plan), start, failure, repair, steps, silent, number);
 }
 
 /* Counts the rows of a list by width, as cutlist_widths does. */

@@ -4,6 +4,8 @@
 #![forbid(unsafe_code)]
 
 mod answer;
+mod arguments;
+mod drill;
 mod input;
 mod list;
 mod metres;
@@ -23,6 +25,7 @@ use std::path::PathBuf;
 use std::process::ExitCode;
 
 use cutlist::EdgeSet;
+use drill::Drills;
 use input::STANDARD;
 use output::{print, say};
 use status::Status;
@@ -46,6 +49,8 @@ enum Asked {
     Replay(OsString, OsString),
     /// When the room of a plan, the first file, is open and silent by a schedule, the second.
     Works(OsString, OsString),
+    /// How often the room of a file's plan is silent in drills with drawn failures.
+    Drill(OsString, Drills),
 }
 
 fn main() -> ExitCode {
@@ -85,18 +90,23 @@ fn run() -> io::Result<Status> {
         Ok(Asked::Metres(file, edges)) => metres::run(&file, edges),
         Ok(Asked::Replay(plan, log)) => replay::run(&plan, &log),
         Ok(Asked::Works(plan, schedule)) => works::run(&plan, &schedule),
+        Ok(Asked::Drill(plan, drills)) => drill::run(&plan, &drills),
     }
 }
 
 /// The words that say what to do.
-const WORDS: [&str; 5] = ["trimmed", "widths", "metres", "replay", "works"];
+const WORDS: [&str; 6] = ["trimmed", "widths", "metres", "replay", "works", "drill"];
 
 /// What the arguments ask for, or what is wrong with them. A word that says what to do stands first:
 /// anywhere else, and after `--`, it is a file's name.
 fn asked(arguments: impl Iterator<Item = OsString>) -> Result<Asked, String> {
     let mut arguments = arguments.peekable();
     let word = arguments.next_if(|word| WORDS.iter().any(|known| word == known));
-    let Some(words) = words(arguments)? else {
+    let known: &[&str] = match &word {
+        Some(word) if word == "drill" => &drill::OPTIONS,
+        _ => &[],
+    };
+    let Some((words, options)) = arguments::parted(arguments, known)? else {
         return Ok(Asked::Help);
     };
     let Some(word) = word else {
@@ -118,6 +128,12 @@ fn asked(arguments: impl Iterator<Item = OsString>) -> Result<Asked, String> {
         return match &files(words)?[..] {
             [plan, schedule] => Ok(Asked::Works(plan.clone(), schedule.clone())),
             _ => needs("PLAN and a SCHEDULE, and no other FILE"),
+        };
+    }
+    if word == "drill" {
+        return match &files(words)?[..] {
+            [plan] => Ok(Asked::Drill(plan.clone(), drill::drills(&options)?)),
+            _ => needs("PLAN, and no other FILE"),
         };
     }
     let Some((file, others)) = words.split_first() else {
@@ -142,24 +158,4 @@ fn files(words: Vec<OsString>) -> Result<Vec<OsString>, String> {
         0 | 1 => Ok(words),
         _ => Err("standard input can be read only once".to_string()),
     }
-}
-
-/// The arguments that are no options, `None` if help is asked for. An option may stand among them, up
-/// to `--`.
-fn words(arguments: impl Iterator<Item = OsString>) -> Result<Option<Vec<OsString>>, String> {
-    let mut words = Vec::new();
-    let mut options = true;
-    for argument in arguments {
-        let is_option = options && argument.as_encoded_bytes().starts_with(b"-");
-        if is_option && argument == "--" {
-            options = false;
-        } else if is_option && (argument == "-h" || argument == "--help") {
-            return Ok(None);
-        } else if is_option && argument != STANDARD {
-            return Err(format!("unknown option {}", output::shown(&argument)));
-        } else {
-            words.push(argument);
-        }
-    }
-    Ok(Some(words))
 }

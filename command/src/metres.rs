@@ -40,7 +40,7 @@ fn total(plan: &[u8], edges: Option<EdgeSet>) -> Result<String, Refusal> {
 pub fn edges(words: &[OsString]) -> Result<EdgeSet, String> {
     let mut edges = EdgeSet::default();
     for word in words {
-        let number = word.to_str().and_then(decimal);
+        let number: Option<usize> = word.to_str().and_then(decimal);
         let Some(number) = number.filter(|&number| number < SLOTS) else {
             let word = shown(word);
             return Err(format!("'{word}' is no cable: cables are 0 to 63"));

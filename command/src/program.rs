@@ -4,6 +4,7 @@
 use std::io::Write;
 use std::path::Path;
 use std::process::{Command, Stdio};
+use std::str::FromStr;
 
 use cutlist::Refusal;
 
@@ -49,7 +50,7 @@ pub fn run(program: &Path, plan: &[u8]) -> Result<Answer, String> {
 fn answer(text: &str) -> Option<Answer> {
     let mut lines = text.strip_suffix('\n')?.split('\n');
     let (word, number) = lines.next()?.split_once(' ')?;
-    let number = decimal(number)?;
+    let number: usize = decimal(number)?;
     let rows: Vec<&str> = lines.collect();
     match word {
         "cuts" if number > 0 && number == rows.len() && rows.iter().all(|row| is_row(row)) => {
@@ -78,9 +79,9 @@ fn is_set(text: &str) -> bool {
     members.is_some_and(|members| members.windows(2).all(|pair| pair[0] < pair[1]))
 }
 
-/// The number that a text is, if it has no sign and no zero before it.
-pub fn decimal(text: &str) -> Option<usize> {
-    let number: usize = text.parse().ok()?;
+/// The number that a text is, if its type holds it and it has no sign and no zero before it.
+pub fn decimal<N: FromStr + ToString>(text: &str) -> Option<N> {
+    let number: N = text.parse().ok()?;
     (number.to_string() == text).then_some(number)
 }
 

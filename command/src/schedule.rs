@@ -125,7 +125,7 @@ fn window(words: &[&str]) -> Result<(Span, Option<u16>), String> {
     match words {
         ["open", times @ ..] => Ok((span(times)?, None)),
         ["works", times @ .., "cable", cable] => {
-            let cable = number(cable).ok_or_else(|| faulty(&[cable], NO_CABLE))?;
+            let cable = decimal(cable).ok_or_else(|| faulty(&[cable], NO_CABLE))?;
             Ok((span(times)?, Some(cable)))
         }
         ["works", ..] => Err("works that do not end in 'cable' and one number".to_string()),
@@ -141,11 +141,11 @@ fn span(words: &[&str]) -> Result<Span, String> {
     };
     match from {
         [minute] => {
-            let start = number(minute).ok_or_else(|| faulty(from, NO_START))?;
+            let start = decimal(minute).ok_or_else(|| faulty(from, NO_START))?;
             let [minute] = until else {
                 return Err(faulty(until, NO_MINUTE));
             };
-            let end = number(minute).ok_or_else(|| faulty(until, NO_MINUTE))?;
+            let end = decimal(minute).ok_or_else(|| faulty(until, NO_MINUTE))?;
             Ok(Span { start, end })
         }
         _ => {
@@ -197,11 +197,6 @@ fn next(start: u16, clock: u16) -> u16 {
         end @ ..=WEEK => end,
         end => end - WEEK,
     }
-}
-
-/// The number that a word is, if it can be lent.
-fn number(word: &str) -> Option<u16> {
-    decimal(word).and_then(|number| number.try_into().ok())
 }
 
 fn faulty(words: &[&str], what: &str) -> String {

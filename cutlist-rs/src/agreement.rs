@@ -9,6 +9,7 @@ use crate::plan::{Verdict, LONGEST, WEEK};
 use crate::refusal::Refusal;
 use crate::replay::{DOWN, UP};
 use crate::sets::NodeSet;
+use crate::simulation::MOST_STEPS;
 use crate::sys;
 
 const HEADER: &str = include_str!("../../include/cutlist.h");
@@ -18,6 +19,7 @@ const REPLAY: &str = include_str!("../../crates/replay/src/lib.rt");
 const MAINTENANCE: &str = include_str!("../../crates/maintenance/src/lib.rt");
 const WINDOWS: &str = include_str!("../../crates/windows/src/lib.rt");
 const WINDOWS_SPECIFIED: &str = include_str!("../../crates/windows/specs/Windows.antt");
+const SIMULATION: &str = include_str!("../../crates/simulation/src/lib.rt");
 const REFERENCE: &str = include_str!("../../rust/src/reference.rs");
 const READER_SPECIFIED: &str = include_str!("../../crates/format/specs/Format.antt");
 const RECORD_SPECIFIED: &str = include_str!("../../crates/network/specs/Record.antt");
@@ -233,6 +235,22 @@ fn weeks_agree() {
     assert_eq!(words, most);
     let words = Refusal::BadWindow.to_string().replace(',', "");
     assert!(words.contains(&format!("above {week} ")), "{words}");
+}
+
+/// The most steps of a drill, and the words of refusal 25.
+#[test]
+fn the_most_steps_agree() {
+    let most = size_of_the_header("CUTLIST_MOST_STEPS");
+    assert_eq!(usize::try_from(MOST_STEPS), Ok(most));
+    for (text, before) in [
+        (SIMULATION, "const MAX_STEPS: u64 = "),
+        (REFERENCE, "const MOST_STEPS: u64 = "),
+    ] {
+        let stated = between(text, before, ";").replace('_', "");
+        assert_eq!(number::<usize>(&stated), most, "{before}");
+    }
+    let words = Refusal::TooManySteps.to_string().replace(',', "");
+    assert_eq!(words, format!("more than {most} steps"));
 }
 
 /// The most points, a bit for each of them in every set of points, and the words of refusal 4.

@@ -7,7 +7,7 @@
 //! loop is in no minimal cut. A cable may have its length in metres, which changes no list.
 //!
 //! ```
-//! use cutlist::{EdgeSet, Plan, Refusal, Verdict, DOWN, UP};
+//! use cutlist::{EdgeSet, Plan, Refusal, Simulation, Verdict, DOWN, UP};
 //!
 //! // The bridge: server 0, room 3, and a cable across.
 //! let plan = Plan::new(4, 0, 3)?
@@ -50,6 +50,11 @@
 //! let works = [[1140, 1260, 3], [1200, 1320, 4]];
 //! assert_eq!(plan.silent_minutes(&[[1080, 1440]], &works)?, 60);
 //!
+//! // A drill of 1,000 steps: in each, 8 of 256 draws let a cable fail, and 64 of 256 let one that is
+//! // down be repaired. At the end of 20 steps the room was silent.
+//! let drill = Simulation { start: 1, failure: 8, repair: 64, steps: 1000 };
+//! assert_eq!(plan.simulate(&drill)?.silent, 20);
+//!
 //! // A plan travels as bytes, and bytes outside the rules are refused.
 //! let bytes = plan.encode()?;
 //! assert_eq!(Plan::decode(&bytes)?, plan);
@@ -67,6 +72,7 @@ mod plan;
 mod refusal;
 mod replay;
 mod sets;
+mod simulation;
 #[allow(unsafe_code)]
 mod sys;
 
@@ -75,6 +81,7 @@ pub use plan::{EdgeError, EdgeFault, Plan, Relevant, Verdict, WEEK};
 pub use refusal::Refusal;
 pub use replay::{DOWN, UP};
 pub use sets::{EdgeSet, Members, NodeSet};
+pub use simulation::{Simulated, Simulation, MOST_STEPS};
 
 /// The example of the README, compiled.
 #[cfg(doctest)]

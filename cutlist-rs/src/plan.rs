@@ -7,6 +7,7 @@ use crate::list::{blank, ListError, Mincuts};
 use crate::refusal::{answer, Refusal};
 use crate::replay;
 use crate::sets::{EdgeSet, NodeSet};
+use crate::simulation::{Simulated, Simulation};
 use crate::sys::{self, Record};
 
 /// Bytes in the longest plan.
@@ -349,6 +350,16 @@ impl Plan {
         answer(number, minutes)
     }
 
+    /// Drills the hall with drawn failures: how many of the steps asked for end with a minimal cut
+    /// wholly down, and the final number. Without a route every step counts; with one, none does at
+    /// failure setting 0, and at repair setting 0 those that count are the last ones.
+    ///
+    /// More than [`MOST_STEPS`](crate::MOST_STEPS) steps are [`Refusal::TooManySteps`].
+    pub fn simulate(&self, drill: &Simulation) -> Result<Simulated, Refusal> {
+        let (refusal, (silent, number)) = sys::simulate(&self.0, drill);
+        answer(refusal, Simulated { silent, number })
+    }
+
     /// How many of these sets of cables have width 0, 1 .. 64. The width of a set is the number of
     /// different pairs of points that its cables join, whichever end comes first: cables between the
     /// same two points count once, and so do loops at one point. The sets may be cuts or any others;
@@ -365,7 +376,7 @@ mod tests {
     use std::time::{Duration, Instant};
 
     use super::*;
-    use crate::{DOWN, UP};
+    use crate::{DOWN, MOST_STEPS, UP};
 
     const BRIDGE: [u8; 26] = [
         0x50, 4, 0x53, 0, 3, 0x43, 0, 0, 1, 0x43, 1, 0, 2, 0x43, 2, 1, 2, 0x43, 3, 1, 3, 0x43, 4,
@@ -925,6 +936,107 @@ mod tests {
         let absent = [[0, 1, 9], [1, 1, 0]];
         assert_eq!(refused(&[], &absent), Refusal::NoSuchEdge);
         assert_eq!(refused(&[[2, 1]], &absent), Refusal::BadWindow);
+    }
+
+    /// A drill of the bridge, word by word: a step counts if it ends with one of the four minimal cuts
+    /// wholly down.
+    fn drilled_bridge(drill: &Simulation) -> Simulated {
+        const CUTS: [&[usize]; 4] = [&[0, 1], &[1, 2, 3], &[0, 2, 4], &[3, 4]];
+        let mut number = u128::from(drill.start);
+        let mut down = [false; 5];
+        let mut silent = 0;
+        for _ in 0..drill.steps {
+            for down in &mut down {
+                number = number * 6364136223846793005 + 1442695040888963407;
+                number %= 1 << 64;
+                let setting = if *down { drill.repair } else { drill.failure };
+                *down ^= (number >> 56) < u128::from(setting);
+            }
+            let wholly_down = |cut: &&[usize]| cut.iter().all(|&cable| down[cable]);
+            silent += u64::from(CUTS.iter().any(wholly_down));
+        }
+        let number = u64::try_from(number).expect("a remainder");
+        Simulated { silent, number }
+    }
+
+    #[test]
+    fn a_hall_is_drilled() {
+        let settings = [0, 1, 8, 64, 254, 255];
+        let pairs = settings.map(|failure| settings.map(|repair| (failure, repair)));
+        let mut counts = Vec::new();
+        for start in [0, 1, 1 << 63, u64::MAX, 0x9E37_79B9_7F4A_7C15] {
+            for &(failure, repair) in pairs.as_flattened() {
+                for steps in [0, 1, 2, 300] {
+                    let drill = Simulation {
+                        start,
+                        failure,
+                        repair,
+                        steps,
+                    };
+                    let expected = drilled_bridge(&drill);
+                    assert_eq!(bridge().simulate(&drill), Ok(expected), "{drill:?}");
+                    assert_eq!(measured_bridge().simulate(&drill), Ok(expected));
+                    counts.push(expected.silent);
+                }
+            }
+        }
+        assert!(counts.contains(&0) && counts.contains(&300));
+        assert!(counts.iter().any(|count| (1..300).contains(count)));
+    }
+
+    /// A drill from 1 on.
+    fn drill(failure: u8, repair: u8, steps: u64) -> Simulation {
+        Simulation {
+            start: 1,
+            failure,
+            repair,
+            steps,
+        }
+    }
+
+    #[test]
+    fn steps_of_a_drill() {
+        // By another program.
+        for (failure, repair, silent) in [(0, 0, 0), (8, 64, 20), (20, 100, 62), (1, 0, 854)] {
+            let simulated = Simulated {
+                silent,
+                number: 5913207373884461897,
+            };
+            let drill = drill(failure, repair, 1000);
+            assert_eq!(bridge().simulate(&drill), Ok(simulated));
+        }
+        // At repair setting 0 the last steps count: with each step more, one more.
+        let counts = (0..=1000).map(|steps| {
+            let simulated = bridge().simulate(&drill(1, 0, steps));
+            simulated.expect("accepted").silent
+        });
+        assert!(counts.eq((0..=1000_u64).map(|steps| steps.saturating_sub(146))));
+        // Without a route every step counts, and without a cable nothing is drawn.
+        let apart = hall(3, 2, &[(0, 1), (0, 0)]);
+        let silent = |steps| {
+            apart
+                .simulate(&drill(9, 9, steps))
+                .map(|drilled| drilled.silent)
+        };
+        assert_eq!((silent(0), silent(77)), (Ok(0), Ok(77)));
+        let none = hall(2, 1, &[]).simulate(&drill(9, 9, MOST_STEPS));
+        let every = Simulated {
+            silent: MOST_STEPS,
+            number: 1,
+        };
+        assert_eq!(none, Ok(every));
+    }
+
+    #[test]
+    fn too_many_steps_are_refused() {
+        for plan in [bridge(), hall(2, 1, &[]), two_hubs(30)] {
+            assert!(plan.simulate(&drill(8, 64, MOST_STEPS)).is_ok());
+            // No number of steps is narrowed.
+            for steps in [MOST_STEPS + 1, 1 << 32, (1 << 32) + 5, 1 << 63, u64::MAX] {
+                let refused = plan.simulate(&drill(8, 64, steps));
+                assert_eq!(refused, Err(Refusal::TooManySteps), "{steps}");
+            }
+        }
     }
 
     #[test]

@@ -68,6 +68,7 @@ refusals! {
     18 TooManyEvents "more whole events than bytes lent"
     23 TooManyWindows "more than 14 opening windows, or more than 16 works windows"
     24 BadWindow "a window whose start is not below its end or whose end is above 10,080, or a piece of one"
+    25 TooManySteps "more than 65,535 steps"
     26 NotTrimmed "some point or present cable is not useful"
     28 BadLength "a length that is not of the cable just before it, or of 0 metres"
 }

@@ -2,6 +2,7 @@
 //! none, beside its result.
 
 use crate::sets::{EdgeSet, NodeSet};
+use crate::simulation::Simulation;
 
 /// Slots for cables.
 pub const SLOTS: usize = 64;
@@ -128,6 +129,14 @@ on_a_record! {
         works_length: usize,
         minutes: *mut u16
     );
+    fn cutlist_simulate(
+        start: u64,
+        failure: u8,
+        repair: u8,
+        steps: u64,
+        silent: *mut u64,
+        number: *mut u64
+    );
     fn cutlist_widths(cuts: *const u64, cuts_length: usize, table: *mut [u64; WIDTHS]);
 }
 
@@ -252,6 +261,24 @@ pub fn silent_minutes(r: &Record, openings: &[u16], works: &[u16]) -> (u8, u16) 
         )
     };
     (refusal, minutes)
+}
+
+/// What comes of a drill: the steps that count, and the final number.
+pub fn simulate(r: &Record, drill: &Simulation) -> (u8, (u64, u64)) {
+    let (mut silent, mut number) = (0, 0);
+    // SAFETY: each pointer is valid for its type, and no two overlap.
+    let refusal = unsafe {
+        cutlist_simulate(
+            r,
+            drill.start,
+            drill.failure,
+            drill.repair,
+            drill.steps,
+            &mut silent,
+            &mut number,
+        )
+    };
+    (refusal, (silent, number))
 }
 
 /// The width table of a list.

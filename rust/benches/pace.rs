@@ -2,20 +2,22 @@
 //! points and cables numbered anew for each call; then the cost of a row in short lists and long
 //! ones, the slowest calls found, the useful part, which each list begins with, and the judging of a
 //! minimal cut; then the test of trimmed plans beside their trimming; then link logs of ten million
-//! events, the silent minutes of weeks, and width tables of a million rows, beside the same methods in
-//! ordinary Rust. All are measured in one run: medians over repeated calls in turn, the rows cleared
-//! before each list, and the bytes before each log. A ratio is the library's time over that of the column
-//! before it, of trimmed plans that of the first of two columns over that of the second.
+//! events, the silent minutes of weeks, drills of the most steps, and width tables of a million rows,
+//! beside the same methods in ordinary Rust. All are measured in one run: medians over repeated calls in
+//! turn, the rows cleared before each list, and the bytes before each log. A ratio is the library's time
+//! over that of the column before it, of trimmed plans that of the first of two columns over that of the
+//! second.
 //!
 //! cargo bench --offline
 //!
 //! The eleven-point hall alone, about a second; or trimmed plans alone; or logs alone; or weeks alone; or
-//! width tables alone:
+//! drills alone; or width tables alone:
 //!
 //! cargo bench --offline -- --eleven
 //! cargo bench --offline -- --trimmed
 //! cargo bench --offline -- --replay
 //! cargo bench --offline -- --works
+//! cargo bench --offline -- --drills
 //! cargo bench --offline -- --widths
 //!
 //! With all or with the first, an earlier build of the library is measured in the same run if it is
@@ -46,19 +48,20 @@ use std::panic;
 use std::process::{Command, ExitCode};
 use std::time::Duration;
 
-use cutlist_tests::answers::{Nodes, Verdict, Widths};
+use cutlist_tests::answers::{Nodes, Simulated, Verdict, Widths};
+use cutlist_tests::drills::Drill;
 use cutlist_tests::halls;
 use cutlist_tests::plans;
 use cutlist_tests::record::Record;
-use cutlist_tests::reference::{DOWN, UP};
+use cutlist_tests::reference::{DOWN, MOST_STEPS, UP};
 use cutlist_tests::rng::Rng;
 use cutlist_tests::sys::capi::{on_fields, Build};
 use cutlist_tests::timer::Timer;
 use cutlist_tests::weeks::Week;
 use cutlist_tests::{brute, ordinary, sides, sys};
 
-/// On the eleven-point hall, on logs and on weeks the library may take so many times what ordinary Rust
-/// takes.
+/// On the eleven-point hall, on logs, on weeks and on drills the library may take so many times what
+/// ordinary Rust takes.
 const MOST_RATIO: f64 = 2.0;
 
 /// From a thousand rows to a million the dearest row may cost so many times the cheapest.
@@ -143,6 +146,7 @@ enum Asked {
     Trimmed,
     Replay,
     Works,
+    Drills,
     Widths,
     Plans,
 }
@@ -164,6 +168,7 @@ impl Options {
                 "--trimmed" => asked.replace(Asked::Trimmed).is_some(),
                 "--replay" => asked.replace(Asked::Replay).is_some(),
                 "--works" => asked.replace(Asked::Works).is_some(),
+                "--drills" => asked.replace(Asked::Drills).is_some(),
                 "--widths" => asked.replace(Asked::Widths).is_some(),
                 "--plans" => asked.replace(Asked::Plans).is_some(),
                 "--before" => before.replace(arguments.next()?).is_some(),
@@ -998,6 +1003,74 @@ fn works() -> Vec<(String, f64)> {
     slow
 }
 
+/// The calls of each on a drill.
+const DRILLS: usize = 5;
+
+/// The settings of drills, for failures and for repairs: few failures and more repairs, repairs almost at
+/// once, every other cable in each step, and neither.
+const SETTINGS: [(u8, u8); 4] = [(8, 64), (1, 255), (128, 128), (0, 0)];
+
+/// The table of drills: how many of a hundred steps are silent, the library's time and that of ordinary
+/// Rust, and the library's time for all steps. Gives the drills on which the library takes too many times
+/// what ordinary Rust takes, and the ratio.
+fn drills() -> Vec<(String, f64)> {
+    let names = &LISTERS[..2];
+    println!(
+        "\n{:<32} {:>6} {:>6} {:>6} {:>5}{} {:>8}",
+        "drills of the most steps",
+        "points",
+        "cables",
+        "silent",
+        "calls",
+        headings(names, WIDTH),
+        "library"
+    );
+    let units = units(names, "ns/step", WIDTH);
+    println!("{:<46} {:>6} {:>5}{units} {:>8}", "", "%", "", "ms/call");
+
+    let mut slow = Vec::new();
+    for (hall_name, hall) in [
+        ("every pair of 11", halls::complete(11)),
+        ("two points", halls::two_points(64)),
+        ("grid of 2 by 22", halls::grid(2, 22)),
+        ("circle of 64", halls::circle(64, &[1])),
+    ] {
+        for (failure, repair) in SETTINGS {
+            let name = format!("{hall_name}, {failure} and {repair}");
+            let drill = Drill {
+                start: 1,
+                failure,
+                repair,
+                steps: MOST_STEPS,
+            };
+            let mut times = [Vec::new(), Vec::new()];
+            let mut simulated = Simulated::default();
+            for _ in 0..DRILLS {
+                let (answer, time) = Timer::Processor.time(|| sys::simulate_bare(&hall, &drill));
+                times[0].push(time);
+                let (plain, time) = Timer::Processor.time(|| ordinary::simulate(&hall, &drill));
+                times[1].push(time);
+                assert_eq!((0, plain), (answer.0, Ok(answer.1)), "{name}");
+                simulated = answer.1;
+            }
+            let times = times.map(median);
+            println!(
+                "{name:<32} {:>6} {:>6} {:>6.1} {DRILLS:>5}{} {:>8.1}",
+                hall.nodes,
+                hall.present.count_ones(),
+                100.0 * simulated.silent as f64 / MOST_STEPS as f64,
+                figures(&times, MOST_STEPS as usize, WIDTH),
+                1e3 * times[0].as_secs_f64()
+            );
+            let ratio = ratio(times[0], times[1]);
+            if ratio > MOST_RATIO {
+                slow.push((name, ratio));
+            }
+        }
+    }
+    slow
+}
+
 /// Rows in each list that is counted by width but the empty ones, and the calls of each.
 const ROWS: usize = 1 << 20;
 const COUNTS: usize = 51;
@@ -1136,7 +1209,7 @@ fn main() -> ExitCode {
     let arguments = env::args().skip(1).filter(|argument| argument != "--bench");
     let Some(options) = Options::of(arguments) else {
         eprintln!(
-            "cargo bench --offline [-- [--eleven] [--before LIB.so] | [--widths] [--singly LIB.so] | --trimmed | --replay | --works | --plans]"
+            "cargo bench --offline [-- [--eleven] [--before LIB.so] | [--widths] [--singly LIB.so] | --trimmed | --replay | --works | --drills | --plans]"
         );
         return ExitCode::from(2);
     };
@@ -1200,6 +1273,13 @@ fn main() -> ExitCode {
         exceeded.extend(works().into_iter().map(|(name, ratio)| {
             format!(
                 "On the week '{name}' the library takes {ratio:.2} times what ordinary Rust takes, more than {MOST_RATIO}."
+            )
+        }));
+    }
+    if all || asked == Asked::Drills {
+        exceeded.extend(drills().into_iter().map(|(name, ratio)| {
+            format!(
+                "On the drill '{name}' the library takes {ratio:.2} times what ordinary Rust takes, more than {MOST_RATIO}."
             )
         }));
     }

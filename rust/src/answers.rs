@@ -27,5 +27,14 @@ pub enum Verdict {
     Minimal = 3,
 }
 
+/// What comes of a drill.
+#[derive(Clone, Copy, Debug, Default, PartialEq, Eq)]
+pub struct Simulated {
+    /// How many steps end with the room silent.
+    pub silent: u64,
+    /// The final number.
+    pub number: u64,
+}
+
 /// The width table: how many rows have width 0 to 64.
 pub type Widths = [u64; 65];

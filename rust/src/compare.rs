@@ -2,8 +2,9 @@
 
 use std::fmt::LowerHex;
 
-use crate::answers::{Nodes, Part, Row, Verdict, Widths};
+use crate::answers::{Nodes, Part, Row, Simulated, Verdict, Widths};
 use crate::brute;
+use crate::drills::Drill;
 use crate::lent;
 use crate::ordinary;
 use crate::record::{Record, SLOTS};
@@ -153,11 +154,8 @@ pub fn silent_minutes(
 ) -> (u8, u16) {
     let expected = reference::out_while_open(record, openings, works);
     let number = reference::number(&expected);
-    let outs = expected.unwrap_or_default();
-    // Minutes in a row with the same cables out are judged together.
-    let alike = outs.chunk_by(|one, next| one == next);
-    let silent = alike.filter(|minutes| is_cut(minutes[0]));
-    let minutes = silent.map(<[u64]>::len).sum::<usize>() as u16;
+    let silent = judged(&expected.unwrap_or_default(), is_cut);
+    let minutes = silent.into_iter().filter(|&silent| silent).count() as u16;
 
     let answer = sys::silent_minutes(record, openings, works);
     assert_eq!(
@@ -174,6 +172,36 @@ pub fn silent_minutes(
         "openings {openings:?}, works {works:?}, record {record:?}"
     );
     answer
+}
+
+/// Whether the room is silent with each of these sets out, one after the other. Those in a row that are
+/// the same are judged together.
+fn judged(sets: &[u64], is_cut: impl Fn(u64) -> bool) -> Vec<bool> {
+    let alike = sets.chunk_by(|one, next| one == next);
+    let silent = |sets: &[u64]| vec![is_cut(sets[0]); sets.len()];
+    alike.flat_map(silent).collect()
+}
+
+/// Drills a hall; `is_cut` tells of a set of present cables whether no route is left without it. Ordinary
+/// Rust drills the same. Gives the refusal number and after which steps the room is silent.
+pub fn simulate(record: &Record, drill: &Drill, is_cut: impl Fn(u64) -> bool) -> (u8, Vec<bool>) {
+    let expected = reference::simulate(record, drill);
+    let refusal = reference::number(&expected);
+    let (downs, number) = expected.unwrap_or_default();
+    let after = judged(&downs, is_cut);
+    let simulated = Simulated {
+        silent: after.iter().filter(|&&silent| silent).count() as u64,
+        number,
+    };
+
+    let answer = sys::simulate(record, drill);
+    assert_eq!(answer, (refusal, simulated), "{drill:?}, record {record:?}");
+    let plain = match ordinary::simulate(record, drill) {
+        Ok(simulated) => (0, simulated),
+        Err(refusal) => (refusal, Simulated::default()),
+    };
+    assert_eq!(plain, answer, "{drill:?}, record {record:?}");
+    (refusal, after)
 }
 
 /// Lists a record over what the rows held; if the record has no fault, `rows` is the whole list, or

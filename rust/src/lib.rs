@@ -5,7 +5,7 @@
 //! - `lent`: memory lent to a call, with guard bytes on both sides
 //! - `sys`: the library's functions, each call made on guarded memory
 //! - `reference`: reader, record test and writer, written from the paper
-//! - `answers`: the useful part, a row of a list, a verdict
+//! - `answers`: the useful part, a row of a list, a verdict, what comes of a drill
 //! - `brute`: useful part, verdicts and lists by force, from the ways through a plan
 //! - `sides`: a second lister, by near sides, for larger plans
 //! - `ordinary`: the library's own method in ordinary Rust, to be measured beside it
@@ -17,6 +17,7 @@
 //! - `logs`: random link logs, and damage to them
 //! - `lists`: random lists of rows, and damage to them
 //! - `weeks`: random windows of a week, and damage to them
+//! - `drills`: random drills, and too many steps for one
 //! - `tally`: how often each refusal number and each verdict occurred
 //! - `timer`: what tells the time of a call
 //! - `fuzz`: arbitrary bytes as questions for every function
@@ -24,6 +25,7 @@
 pub mod answers;
 pub mod brute;
 pub mod compare;
+pub mod drills;
 pub mod fuzz;
 pub mod halls;
 pub mod lengths;

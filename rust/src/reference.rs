@@ -1,8 +1,9 @@
-//! The reader, the record test, the writer, and what a link log and the windows of a week say, straight
-//! from the paper.
+//! The reader, the record test, the writer, what a link log and the windows of a week say, and how a drill
+//! goes, straight from the paper.
 
 use std::ops::Range;
 
+use crate::drills::Drill;
 use crate::record::{Record, MOST_NODES, SLOTS};
 use Refusal::*;
 
@@ -22,6 +23,13 @@ pub const WEEK: u16 = 10_080;
 /// The most opening windows and the most works windows.
 pub const MOST_OPENINGS: usize = 14;
 pub const MOST_WORKS: usize = 16;
+
+/// The most steps of a drill.
+pub const MOST_STEPS: u64 = 65_535;
+
+/// A draw takes the number times the first plus the second.
+pub const MULTIPLIER: u64 = 6_364_136_223_846_793_005;
+pub const INCREMENT: u64 = 1_442_695_040_888_963_407;
 
 /// The refusals, by the library's names and the paper's numbers.
 #[derive(Clone, Copy, Debug, PartialEq, Eq)]
@@ -45,6 +53,7 @@ pub enum Refusal {
     TooManyEvents = 18,
     TooManyWindows = 23,
     BadWindow = 24,
+    TooManySteps = 25,
     NotTrimmed = 26,
     BadLength = 28,
 }
@@ -207,6 +216,41 @@ pub fn cables_out(record: &Record, works: &[u16]) -> Result<Vec<u64>, Refusal> {
 fn minutes(start: u16, end: u16) -> Result<Range<usize>, Refusal> {
     refuse_unless(start < end && end <= WEEK, BadWindow)?;
     Ok(start.into()..end.into())
+}
+
+/// The sets of cables that are down after each step of a drill, and the final number.
+pub fn simulate(record: &Record, drill: &Drill) -> Result<(Vec<u64>, u64), Refusal> {
+    fault(record)?;
+    refuse_unless(drill.steps <= MOST_STEPS, TooManySteps)?;
+    let mut number = drill.start;
+    let mut is_up = [true; SLOTS];
+    let mut after = Vec::new();
+    for _ in 0..drill.steps {
+        for edge in record.edges() {
+            number = advanced(number);
+            let changes = match is_up[edge] {
+                true => drawn(number) < drill.failure,
+                false => drawn(number) < drill.repair,
+            };
+            if changes {
+                is_up[edge] = !is_up[edge];
+            }
+        }
+        let down = record.edges().filter(|&edge| !is_up[edge]);
+        after.push(down.map(|edge| 1 << edge).sum());
+    }
+    Ok((after, number))
+}
+
+/// The number that comes after this one.
+pub fn advanced(number: u64) -> u64 {
+    let next = u128::from(number) * u128::from(MULTIPLIER) + u128::from(INCREMENT);
+    (next % (1 << 64)) as u64
+}
+
+/// What is drawn with a number: its top 8 bits.
+pub fn drawn(number: u64) -> u8 {
+    number.to_be_bytes()[0]
 }
 
 /// The part of the plan that is still to be read.

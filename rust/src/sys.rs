@@ -1,7 +1,8 @@
 //! The library's functions. Every call is made on guarded memory: what is lent for reading must be
 //! the same afterwards, and nothing beside lent memory may be written.
 
-use crate::answers::{Nodes, Part, Widths};
+use crate::answers::{Nodes, Part, Simulated, Widths};
+use crate::drills::Drill;
 use crate::lent::{Guarded, Rows};
 use crate::record::{Record, SLOTS};
 use capi::Build;
@@ -157,6 +158,14 @@ pub mod capi {
             works: *const u16,
             works_length: usize,
             minutes: *mut u16
+        );
+        fn cutlist_simulate(
+            start: u64,
+            failure: u8,
+            repair: u8,
+            steps: u64,
+            silent: *mut u64,
+            number: *mut u64
         );
         fn cutlist_widths(cuts: *const u64, rows: usize, table: *mut Widths);
     }
@@ -479,6 +488,49 @@ pub fn silent_minutes_bare(record: &Record, openings: &[u16], works: &[u16]) -> 
         )
     };
     (refusal, minutes)
+}
+
+/// Drills a hall: the refusal number and what comes of the drill.
+pub fn simulate(record: &Record, drill: &Drill) -> (u8, Simulated) {
+    let mut silent = Guarded::new(u64::from_ne_bytes([STALE; 8]));
+    let mut number = Guarded::new(u64::from_ne_bytes([STALE; 8]));
+
+    // SAFETY: each pointer is valid for its type, and no two overlap.
+    let refusal = on_a_copy(record, |r| unsafe {
+        capi::cutlist_simulate(
+            r,
+            drill.start,
+            drill.failure,
+            drill.repair,
+            drill.steps,
+            silent.place(),
+            number.place(),
+        )
+    });
+
+    let simulated = Simulated {
+        silent: silent.take(),
+        number: number.take(),
+    };
+    (refusal, simulated)
+}
+
+/// The same with nothing around the call: for measuring.
+pub fn simulate_bare(record: &Record, drill: &Drill) -> (u8, Simulated) {
+    let mut simulated = Simulated::default();
+    // SAFETY: each pointer is valid for its type, and no two overlap.
+    let refusal = unsafe {
+        capi::cutlist_simulate(
+            record,
+            drill.start,
+            drill.failure,
+            drill.repair,
+            drill.steps,
+            &mut simulated.silent,
+            &mut simulated.number,
+        )
+    };
+    (refusal, simulated)
 }
 
 /// The width table of a list: the refusal number and the table.

@@ -7,10 +7,11 @@ use std::fs;
 use std::path::Path;
 use std::process::Command;
 
+use cutlist_tests::drills::Drill;
 use cutlist_tests::fuzz::case::{self, Case, Size, FIELDS, FITTED, HEAD, RAW};
 use cutlist_tests::fuzz::counts::{Counts, FAR};
 use cutlist_tests::fuzz::digest::{
-    digest, replay_digest, trimmed_digest, widths_digest, works_digest,
+    digest, drills_digest, replay_digest, trimmed_digest, widths_digest, works_digest,
 };
 use cutlist_tests::fuzz::search::{panic_of, search};
 use cutlist_tests::fuzz::shrinking::shrink;
@@ -201,6 +202,45 @@ fn a_wrong_week_is_found_and_shrunk() {
     assert_eq!((openings.len(), works.len()), (2, 3), "{:?}", case.week);
 }
 
+/// The silent steps of a case's drill, and those at failure setting 0; none on refusal.
+fn silent_steps(case: &Case) -> [u64; 2] {
+    [case.drill.failure, 0].map(|failure| {
+        let drill = Drill {
+            failure,
+            ..case.drill
+        };
+        sys::simulate(&case.record, &drill).1.silent
+    })
+}
+
+/// A wrong claim about drills: that no failures silence a room.
+fn ask_with_a_wrong_drill(bytes: &[u8], counts: &mut Counts) {
+    questions::ask(bytes, counts);
+    let [with, without] = silent_steps(&Case::of(bytes));
+    assert!(with <= without, "failures silence a room");
+}
+
+#[test]
+fn a_wrong_drill_is_found_and_shrunk() {
+    let found = search(cases(97, 1_000), ask_with_a_wrong_drill).expect_err("a silenced room");
+    assert_eq!(found.message, "failures silence a room");
+    let wrong =
+        |bytes: &[u8]| panic_of(|| ask_with_a_wrong_drill(bytes, &mut Counts::default())).is_some();
+    let shrunk = shrink(&found.bytes, 10_000, wrong);
+    assert!(wrong(&shrunk));
+    // Nothing is left but one cable, one step, and a failure setting just above the draw.
+    let Case { record, drill, .. } = Case::of(&shrunk);
+    assert_eq!(record.present.count_ones(), 1);
+    let drawn = reference::drawn(reference::advanced(drill.start));
+    let least = Drill {
+        failure: drawn + 1,
+        repair: 0,
+        steps: 1,
+        ..drill
+    };
+    assert_eq!(drill, least);
+}
+
 /// A wrong claim about widths: that each cable counts.
 fn ask_with_a_wrong_width(bytes: &[u8], counts: &mut Counts) {
     questions::ask(bytes, counts);
@@ -276,6 +316,7 @@ fn every_byte_string_is_a_case() {
     assert_eq!(counts.list_trimmed.total(), counts.list.total());
     assert!(counts.replay.total() >= 3 * counts.cases);
     assert!(counts.silent_minutes.total() >= 3 * counts.cases);
+    assert_eq!(counts.simulate.total(), 3 * counts.cases);
     assert!(counts.widths.total() >= 3 * counts.cases);
 }
 
@@ -383,6 +424,34 @@ fn the_digest_of_weeks() {
     assert!(numbers.windows(2).all(|pair| pair[0] != pair[1]));
     let measured = bridge.clone().with_metres(4, 300);
     assert_eq!(digest_of(&measured, 28, 48), digest_of(&bridge, 28, 48));
+}
+
+/// What comes of drills has a number of its own, which plan, start number, settings and steps change and
+/// metres do not.
+#[test]
+fn the_digest_of_drills() {
+    let bridge = halls::bridge();
+    let digest_of = |hall: &Record, set: [u8; 8]| {
+        let mut bytes = with_head(FITTED, &plans::bytes(hall));
+        bytes[14..22].copy_from_slice(&set);
+        drills_digest([bytes])
+    };
+    let set = [0, 0, 0, 40, 60, 30, 0, 0];
+    let mut numbers = vec![
+        digest_of(&bridge, set),
+        digest_of(&bridge.clone().without(0b10), set),
+        digest_of(&bridge.clone().with(63, 0, 3), set),
+    ];
+    for (place, value) in [(0, 1), (3, 41), (4, 61), (5, 31), (7, 1)] {
+        let mut other = set;
+        other[place] = value;
+        numbers.push(digest_of(&bridge, other));
+    }
+    numbers.sort_unstable();
+    numbers.dedup();
+    assert_eq!(numbers.len(), 8);
+    let measured = bridge.clone().with_metres(4, 300);
+    assert_eq!(digest_of(&measured, set), digest_of(&bridge, set));
 }
 
 /// The width tables have a number of their own.
@@ -533,6 +602,17 @@ fn cases_of_every_kind_are_made() {
                 "works that do not, in a room that is heard",
                 fit && works >= 3 && openings >= 2 && minutes(&case) == [0, 0],
             ),
+            (
+                "failures that silence the room",
+                fit && silent_steps(&case)[0] > silent_steps(&case)[1],
+            ),
+            (
+                "failures that do not, in a room that is heard",
+                fit && case.drill.failure > 0
+                    && case.drill.steps > 0
+                    && silent_steps(&case) == [0, 0],
+            ),
+            ("a drill without a step", case.drill.steps == 0),
             ("exactly the bytes needed", case.buffer == Size::Needed(0)),
             ("one byte less", case.buffer == Size::Needed(-1)),
         ] {
@@ -604,6 +684,16 @@ fn settings_mean_what_they_say() {
     assert_eq!(Case::of(&bytes).week, whole);
     bytes[17] ^= 1;
     assert_ne!(Case::of(&bytes).week, whole);
+    // Its fourth byte is the number of steps of the drill, the fifth and the sixth are the settings, and the
+    // others the start number.
+    bytes[14..22].copy_from_slice(&[1, 2, 3, 64 + 63, 8, 255, 4, 5]);
+    let expected = Drill {
+        start: 0x0504_0000_0003_0201,
+        failure: 8,
+        repair: 255,
+        steps: 63,
+    };
+    assert_eq!(Case::of(&bytes).drill, expected);
 }
 
 /// Any bytes make a fit record, and a plan without fault makes its own; any bytes are a raw record.
@@ -696,6 +786,11 @@ fn the_command() {
     assert_eq!((code, text), (Some(0), format!("{works:016x}\n")));
     assert_ne!(works, number);
 
+    let (code, text) = run(&["--digest", "--drills", "--seed", "88", "--cases", "7"]);
+    let drills = drills_digest(cases(88, 7).map(|(_, bytes)| bytes));
+    assert_eq!((code, text), (Some(0), format!("{drills:016x}\n")));
+    assert_ne!(drills, number);
+
     let (code, text) = run(&["--digest", "--widths", "--seed", "88", "--cases", "7"]);
     let widths = widths_digest(cases(88, 7).map(|(_, bytes)| bytes));
     assert_eq!((code, text), (Some(0), format!("{widths:016x}\n")));
@@ -713,11 +808,16 @@ fn the_command() {
         &["--trimmed"],
         &["--replay"],
         &["--works"],
+        &["--drills"],
         &["--widths"],
         &["--digest", "--trimmed", "--replay"],
         &["--digest", "--trimmed", "--works"],
         &["--digest", "--replay", "--works"],
         &["--digest", "--works", "--widths"],
+        &["--digest", "--works", "--drills"],
+        &["--digest", "--drills", "--widths"],
+        &["--digest", "--trimmed", "--drills"],
+        &["--digest", "--replay", "--drills"],
         &["--digest", "--trimmed", "--widths"],
         &["--digest", "--replay", "--widths"],
         &["--without-loops"],

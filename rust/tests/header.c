@@ -45,6 +45,7 @@ int main(void)
     uint32_t total;
     uint64_t cuts[5] = {7, 7, 7, 7, 7}, edges;
     uint64_t sides[5] = {9, 9, 9, 9, 9}, nodes;
+    uint64_t silent_steps, number;
     uint64_t table[CUTLIST_WIDTHS];
     size_t count;
 
@@ -137,6 +138,29 @@ int main(void)
     CHECK(cutlist_plan_silent_minutes(&plan, openings, 3, works, 9, &minutes) == CUTLIST_BAD_WINDOW && minutes == 0);
     minutes = 9;
     CHECK(cutlist_plan_silent_minutes(&plan, windows, 29, works, 9, &minutes) == CUTLIST_TOO_MANY_WINDOWS && minutes == 0);
+
+    /* Drills: of 1,000 steps from 1 on, without a step, of as many as may be and of more. */
+    silent_steps = number = 9;
+    CHECK(cutlist_plan_simulate(&plan, 1, 8, 64, 1000, &silent_steps, &number) == CUTLIST_ACCEPTED);
+    CHECK(silent_steps == 20 && number == 5913207373884461897);
+    CHECK(cutlist_plan_simulate(&plan, 1, 64, 8, 1000, &silent_steps, &number) == CUTLIST_ACCEPTED);
+    CHECK(silent_steps == 963 && number == 5913207373884461897);
+    CHECK(cutlist_plan_simulate(&plan, 7, 8, 64, 0, &silent_steps, &number) == CUTLIST_ACCEPTED);
+    CHECK(silent_steps == 0 && number == 7);
+    silent_steps = 9;
+    CHECK(cutlist_plan_simulate(&plan, 1, 0, 64, CUTLIST_MOST_STEPS, &silent_steps, &number) == CUTLIST_ACCEPTED);
+    CHECK(silent_steps == 0 && number == 2691684425275580582);
+    silent_steps = 9;
+    CHECK(cutlist_plan_simulate(&plan, 1, 8, 64, CUTLIST_MOST_STEPS + 1, &silent_steps, &number) == CUTLIST_TOO_MANY_STEPS);
+    CHECK(silent_steps == 0 && number == 0);
+    silent_steps = number = 9;
+    CHECK(cutlist_plan_simulate(&plan, 1, 8, 64, (uint64_t)1 << 32, &silent_steps, &number) == CUTLIST_TOO_MANY_STEPS);
+    CHECK(silent_steps == 0 && number == 0);
+    silent_steps = number = 9;
+    plan.second[4] = 4;
+    CHECK(cutlist_plan_simulate(&plan, 1, 8, 64, (uint64_t)1 << 32, &silent_steps, &number) == CUTLIST_END_OUTSIDE);
+    CHECK(silent_steps == 0 && number == 0);
+    plan.second[4] = 3;
 
     /* Lengths: in the struct, in bytes, and of sets. */
     plan.metres[0] = 7;

@@ -6,7 +6,8 @@ use std::ffi::c_void;
 use std::ptr;
 use std::slice;
 
-use cutlist_tests::answers::{Nodes, Part};
+use cutlist_tests::answers::{Nodes, Part, Simulated};
+use cutlist_tests::drills::{self, Drill};
 use cutlist_tests::halls;
 use cutlist_tests::lengths;
 use cutlist_tests::lists;
@@ -265,6 +266,29 @@ fn assert_same_minutes(record: &Record, arrays: &Arrays, week: &Week, at: At) ->
     refusal
 }
 
+/// What comes of a drill is what comes of it elsewhere. Gives the refusal number.
+fn assert_same_drill(record: &Record, arrays: &Arrays, drill: &Drill, at: At) -> u8 {
+    let (silent, number) = (Lent::new(&[7u64], at), Lent::new(&[7u64], at));
+    let refusal = call!(
+        cutlist_simulate,
+        record,
+        arrays,
+        drill.start,
+        drill.failure,
+        drill.repair,
+        drill.steps,
+        silent.place,
+        number.place
+    );
+    let simulated = Simulated {
+        silent: silent.values()[0],
+        number: number.values()[0],
+    };
+    let answer = sys::simulate(record, drill);
+    assert_eq!((refusal, simulated), answer, "{drill:?}, {record:?}");
+    refusal
+}
+
 /// Every call on the record, on its bytes and on its list gives what it gives elsewhere.
 fn assert_same(record: &Record, set: u64, at: At) -> u8 {
     let arrays = Arrays::of(record, at);
@@ -297,6 +321,7 @@ fn assert_same(record: &Record, set: u64, at: At) -> u8 {
     assert_same_replay(record, &arrays, &log, at);
     let week = weeks::fit(&mut rng, record);
     assert_same_minutes(record, &arrays, &week, at);
+    assert_same_drill(record, &arrays, &drills::fit(&mut rng), at);
 
     let count = Lent::new(&[7usize], at);
     let mut plan = [7; 600];
@@ -476,4 +501,27 @@ fn no_window_is_looked_past() {
     }
     tally.assert_only(&[0, 17, 23, 24]);
     tally.assert_each(&[0, 17, 23, 24], 200);
+}
+
+/// Where the last page ends: drills that are refused and drills that are not, with faulty plans and others.
+#[test]
+fn no_drill_writes_past_its_answer() {
+    let mut rng = Rng::new(116);
+    let mut tally = Tally::default();
+    for round in 0..400 {
+        let mut record = plans::record(&mut rng);
+        if round % 4 == 0 {
+            plans::corrupt(&mut rng, &mut record);
+        }
+        let mut drill = drills::fit(&mut rng);
+        if round % 3 == 0 {
+            drill.steps = drills::too_many_steps(&mut rng);
+        }
+        for at in [At::Start, At::End] {
+            let arrays = Arrays::of(&record, at);
+            tally.count(assert_same_drill(&record, &arrays, &drill, at));
+        }
+    }
+    tally.assert_each(&[0, 25], 100);
+    tally.assert_each(&[9, 13], 10);
 }

@@ -17,6 +17,7 @@ use std::path::{Path, PathBuf};
 use std::process::{Command, Stdio};
 
 use cutlist_tests::answers::Nodes;
+use cutlist_tests::drills::{self, Drill};
 use cutlist_tests::halls;
 use cutlist_tests::lengths;
 use cutlist_tests::lists;
@@ -115,6 +116,13 @@ fn silent_minutes(r: &Record, week: &Week) -> (usize, u8) {
     (stack, refusal)
 }
 
+/// The stack of a drill, and its refusal number.
+fn simulate(r: &Record, drill: &Drill) -> (usize, u8) {
+    let mut refusal = 0;
+    let stack = stack_of(|| refusal = sys::simulate_bare(r, drill).0);
+    (stack, refusal)
+}
+
 /// The stack of the width table of a list, and its refusal number.
 fn widths(r: &Record, cuts: &[u64]) -> (usize, u8) {
     let (mut refusal, mut table) = (0, [0; 65]);
@@ -133,6 +141,7 @@ fn others(r: &Record) -> usize {
     let mut silent = [0; 40];
     let log = logs::log(&mut Rng::new(r.present), r, 80);
     let week = weeks::week(&mut Rng::new(r.present), r, 28, 48);
+    let drill = drills::fit(&mut Rng::new(r.present));
     // SAFETY: each pointer is valid for its type and length, and no two overlap.
     let stacks = unsafe {
         [
@@ -156,9 +165,10 @@ fn others(r: &Record) -> usize {
             }),
             replay(r, &log, &mut silent).0,
             silent_minutes(r, &week).0,
+            simulate(r, &drill).0,
         ]
     };
-    stacks.into_iter().max().expect("eight calls")
+    stacks.into_iter().max().expect("nine calls")
 }
 
 /// Halls of every kind: deep ones, wide ones, one without a route, one with every cable.
@@ -296,6 +306,39 @@ fn many_windows_take_no_more_stack_than_one_of_each_kind() {
         for (openings, works, number) in [(28, 48, 0), (0, 0, 0), (28, 47, 24), (30, 51, 23)] {
             let week = weeks::week(&mut rng, &hall, openings, works);
             let (stack, refusal) = silent_minutes(&hall, &week);
+            assert_eq!(refusal, number);
+            assert!(stack <= most, "{stack} bytes, not {most}");
+        }
+    }
+}
+
+/// However many steps a drill has, whatever its settings, and if it has too many, it takes no more stack
+/// than one of one step.
+#[test]
+fn many_steps_take_no_more_stack_than_one() {
+    for hall in [halls::bridge(), halls::line(64, 1), halls::complete(11)] {
+        let one = Drill {
+            start: 1,
+            failure: 255,
+            repair: 0,
+            steps: 1,
+        };
+        let (most, refusal) = simulate(&hall, &one);
+        assert_eq!(refusal, 0);
+        for (failure, repair, steps, number) in [
+            (255, 0, 0, 0),
+            (8, 64, 65_535, 0),
+            (128, 128, 65_535, 0),
+            (8, 64, 65_536, 25),
+            (8, 64, u64::MAX, 25),
+        ] {
+            let drill = Drill {
+                start: 1,
+                failure,
+                repair,
+                steps,
+            };
+            let (stack, refusal) = simulate(&hall, &drill);
             assert_eq!(refusal, number);
             assert!(stack <= most, "{stack} bytes, not {most}");
         }

@@ -5,6 +5,7 @@ use std::fs;
 use std::path::PathBuf;
 use std::process::Command;
 
+use super::drill::Asked;
 use super::running::*;
 
 fn halls() -> Vec<PathBuf> {
@@ -168,6 +169,37 @@ fn every_hall_has_a_week_without_works() {
         }
     }
     assert!(silent >= 2, "{silent}");
+}
+
+/// The drills of each hall by the ends of its cables, as they stand in the text.
+#[test]
+fn every_hall_is_drilled() {
+    let asked = Asked {
+        start: 64,
+        failures: vec![0, 5, 100],
+        repairs: vec![0, 40, 255],
+        steps: 100,
+    };
+    let (mut some, mut silent) = (0, 0);
+    for hall in halls() {
+        let plan = bytes_of(&fs::read_to_string(&hall).expect("text"));
+        let ended = asked.of(&hall);
+        let listed = cutlist(&[&hall]);
+        if listed.status == Some(1) {
+            assert_eq!((ended.status, ended.out), (listed.status, listed.out));
+            assert_eq!(ended.err, listed.err);
+            continue;
+        }
+        let (lines, counts) = asked.by_hand(&plan);
+        ended.listed(&lines);
+        // At failure setting 0 no step is silent, unless the list is the one empty cut.
+        let is_silent = listed.out.starts_with("cuts 1\n- | ");
+        let expected = if is_silent { asked.steps } else { 0 };
+        assert_eq!(counts[..3], [expected; 3], "{}", hall.display());
+        silent += u32::from(is_silent);
+        some += u32::from(counts.iter().any(|count| (1..asked.steps).contains(count)));
+    }
+    assert!(silent >= 2 && some >= 8, "{silent} {some}");
 }
 
 #[test]

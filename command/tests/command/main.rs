@@ -1,6 +1,7 @@
 //! The command itself, `./cutlist`, run as a program: what it prints, what it says and how it ends.
 
 mod building;
+mod drill;
 mod files;
 mod halls;
 mod metres;

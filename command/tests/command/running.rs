@@ -191,3 +191,15 @@ pub fn two_hubs(between: u8) -> Vec<u8> {
     plan.push(0x45);
     plan
 }
+
+/// Numbers that look drawn.
+pub struct Drawn(pub u64);
+
+impl Drawn {
+    /// One below a bound.
+    pub fn below(&mut self, bound: u32) -> u32 {
+        self.0 = self.0.wrapping_mul(6364136223846793005);
+        self.0 = self.0.wrapping_add(1442695040888963407);
+        (self.0 >> 33) as u32 % bound
+    }
+}

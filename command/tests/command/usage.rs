@@ -27,6 +27,9 @@ fn help_is_printed_wherever_it_is_asked_for() {
         &["replay", "missing", "-", "-", "--help"],
         &["works", "-h"],
         &["works", "missing", "-", "-", "--help"],
+        &["drill", "-h"],
+        &["drill", "missing", "-", "-", "--help"],
+        &["drill", "--start", "x", "--fail=256", "--start", "--help"],
     ] {
         words(asked).listed(usage);
     }
@@ -42,6 +45,24 @@ fn an_unknown_option_is_a_wrong_use() {
         words(&["widths", "missing", option]).failed(2, &["unknown option ", option]);
         words(&["replay", "missing", option]).failed(2, &["unknown option ", option]);
         words(&["works", "missing", option]).failed(2, &["unknown option ", option]);
+        words(&["drill", "missing", option]).failed(2, &["unknown option ", option]);
+    }
+}
+
+/// Options with a value are of one word.
+#[test]
+fn an_option_of_another_word_is_unknown() {
+    for option in ["--start", "--fail", "--repair", "--steps"] {
+        for word in ["trimmed", "widths", "metres", "replay", "works"] {
+            for asked in [
+                &[word, "missing", option, "1"][..],
+                &[word, option],
+                &[option, "1", word],
+            ] {
+                let unknown = format!("unknown option {option}\n");
+                words(asked).failed(2, &[&unknown, "Usage: cutlist"]);
+            }
+        }
     }
 }
 

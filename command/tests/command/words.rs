@@ -35,20 +35,40 @@ pub const EVENING: &str = "minutes 50\n\
     Thu 19:40 to Thu 20:00 | 20 minutes, out 0 1\n\
     Thu 20:00 to Thu 20:30 | 30 minutes, out 0 1 4\n";
 
-/// Each word, the second file that it takes, if it takes one, and what it answers for that plan.
-const WORDS: [(&str, Option<&str>, &str); 5] = [
+/// How often the bridge is silent in the drill of the command's help.
+pub const DRILLED: &str = "steps 1000\n\
+    number 5913207373884461897\n\
+    silent | repair 16  repair 64\n\
+    fail 4 |       120          8\n\
+    fail 8 |       173         20\n";
+
+/// Each word with the options that it needs, the second file that it takes, if it takes one, and what
+/// it answers for that plan.
+const WORDS: [(&str, Option<&str>, &str); 6] = [
     ("trimmed", None, BRIDGE_LIST),
     ("widths", None, WIDTHS),
     ("metres", None, ALL),
     ("replay", Some("logs/bridge.hex"), PLAYED),
     ("works", Some("schedules/one-evening.txt"), EVENING),
+    (
+        "drill --start 1 --fail 4,8 --repair 16,64 --steps 1000",
+        None,
+        DRILLED,
+    ),
 ];
 
-/// What is said where nothing stands behind a word.
+/// A word without its options.
+fn alone(word: &str) -> &str {
+    word.split(' ').next().expect("a word")
+}
+
+/// What is said where no file stands behind a word.
 fn needs(word: &str) -> String {
+    let word = alone(word);
     let files = match word {
         "replay" => "PLAN and a LOG",
         "works" => "PLAN and a SCHEDULE",
+        "drill" => "PLAN",
         _ => "FILE",
     };
     format!("{word} needs a {files}")
@@ -68,13 +88,15 @@ fn behind(second: Option<&str>) -> String {
 fn asked(word: &str, file: &Path, second: Option<&str>) -> Ended {
     let files = [Some(file.to_path_buf()), place(second)];
     run(Command::new(script())
-        .arg(word)
+        .args(word.split(' '))
         .args(files.iter().flatten()))
 }
 
-/// The command with words and the second file, and the plan on standard input.
-fn fed(words: &[&str], second: Option<&str>, plan: &[u8]) -> Ended {
-    feed(Command::new(script()).args(words).args(place(second)), plan)
+/// The command with words, which have spaces between them, and the second file, and the plan on
+/// standard input.
+fn fed(words: &str, second: Option<&str>, plan: &[u8]) -> Ended {
+    let mut command = Command::new(script());
+    feed(command.args(words.split(' ')).args(place(second)), plan)
 }
 
 #[test]
@@ -85,15 +107,15 @@ fn a_plan_comes_as_it_comes_without_a_word() {
     for (word, second, answer) in WORDS {
         asked(word, plan, second).listed(answer);
         asked(word, text, second).listed(answer);
-        fed(&[word, "-"], second, MEASURED).listed(answer);
-        fed(&[word, "--", "-"], second, MEASURED).listed(answer);
+        fed(&format!("{word} -"), second, MEASURED).listed(answer);
+        fed(&format!("{word} -- -"), second, MEASURED).listed(answer);
         let second = behind(second);
         bash(&format!("cutlist {word} <(cat \"$1\"){second}"), &[plan]).listed(answer);
         let piped = format!("cat \"$1\" | cutlist {word} /dev/stdin{second}");
         bash(&piped, &[plan]).listed(answer);
         let pieces = "{ head -c 11 \"$1\"; sleep 0.1; tail -c +12 \"$1\"; }";
         bash(&format!("{pieces} | cutlist {word} -{second}"), &[plan]).listed(answer);
-        let fifo = &folder.0.join(format!("{word}.hex"));
+        let fifo = &folder.0.join(format!("{}.hex", alone(word)));
         let line = format!("mkfifo \"$2\"; cat \"$1\" >\"$2\" & cutlist {word} \"$2\"{second}");
         bash(&line, &[text, fifo]).listed(answer);
     }
@@ -106,7 +128,7 @@ fn the_list_program_is_not_asked() {
     for (word, second, answer) in WORDS {
         run(Command::new(env!("CARGO_BIN_EXE_cutlist"))
             .arg(&folder.0)
-            .arg(word)
+            .args(word.split(' '))
             .arg(plan)
             .args(place(second)))
         .listed(answer);
@@ -117,7 +139,8 @@ fn the_list_program_is_not_asked() {
 fn no_beginning_of_a_plan_has_an_answer() {
     for (word, second, _) in WORDS {
         for end in 0..MEASURED.len() {
-            fed(&[word, "-"], second, &MEASURED[..end]).refused(1, "the plan stops early");
+            let ended = fed(&format!("{word} -"), second, &MEASURED[..end]);
+            ended.refused(1, "the plan stops early");
         }
     }
 }
@@ -125,10 +148,12 @@ fn no_beginning_of_a_plan_has_an_answer() {
 #[test]
 fn a_file_must_be_named() {
     for (word, ..) in WORDS {
-        for words in [&[word][..], &[word, "--"]] {
-            let ended = run(Command::new(script()).args(words));
-            let file = format!("./{word}");
-            ended.failed(2, &[&needs(word), &file, "Usage: cutlist"]);
+        for words in [alone(word), word] {
+            let file = format!("./{}", alone(word));
+            let said = [&needs(word), file.as_str(), "Usage: cutlist"];
+            for words in [words, &format!("{words} --")] {
+                run(Command::new(script()).args(words.split(' '))).failed(2, &said);
+            }
         }
     }
 }
@@ -162,7 +187,8 @@ fn a_huge_input_has_an_answer() {
         run(Command::new("timeout")
             .arg("60")
             .arg(script())
-            .args([word, "/dev/zero"])
+            .args(word.split(' '))
+            .arg("/dev/zero")
             .args(place(second)))
         .refused(2, unfit);
         asked(word, long, second).listed(answer);
@@ -183,6 +209,9 @@ fn a_file_may_have_any_name() {
         "metres",
         "replay",
         "works",
+        "drill",
+        "--start",
+        "--steps=1",
         "-x",
         "5",
         "a b",
@@ -191,15 +220,15 @@ fn a_file_may_have_any_name() {
     for (word, second, answer) in WORDS {
         for name in names {
             folder.file(name, MEASURED);
-            let named = |words: &[&str], second| {
+            let named = |words: &str, second| {
                 run(Command::new(script())
-                    .args(words)
+                    .args(words.split(' '))
                     .arg(name)
                     .args(place(second))
                     .current_dir(&folder.0))
             };
-            named(&[word, "--"], second).listed(answer);
-            named(&["--"], None).listed(BRIDGE_LIST);
+            named(&format!("{word} --"), second).listed(answer);
+            named("--", None).listed(BRIDGE_LIST);
             // A message is one line, whatever the name.
             folder.file(name, "");
             let refused = asked(word, &folder.0.join(name), second);
@@ -217,23 +246,24 @@ fn a_file_may_have_any_name() {
 fn a_file_that_is_called_as_a_word_is_listed() {
     for (word, second, answer) in WORDS {
         let folder = Folder::new();
-        folder.file(word, MEASURED);
+        let file = alone(word);
+        folder.file(file, MEASURED);
         folder.file("plan", MEASURED);
-        let asked = |words: &[&str], second| {
+        let asked = |words: &str, second| {
             run(Command::new(script())
-                .args(words)
+                .args(words.split(' '))
                 .args(place(second))
                 .current_dir(&folder.0))
         };
-        asked(&[&format!("./{word}")], None).listed(BRIDGE_LIST);
-        asked(&["--", word], None).listed(BRIDGE_LIST);
-        let both = format!("plan:\n{BRIDGE_LIST}{word}:\n{BRIDGE_LIST}");
-        asked(&["plan", word], None).listed(&both);
-        asked(&[word], None).failed(2, &[&needs(word)]);
+        asked(&format!("./{file}"), None).listed(BRIDGE_LIST);
+        asked(&format!("-- {file}"), None).listed(BRIDGE_LIST);
+        let both = format!("plan:\n{BRIDGE_LIST}{file}:\n{BRIDGE_LIST}");
+        asked(&format!("plan {file}"), None).listed(&both);
+        asked(file, None).failed(2, &[&needs(word)]);
         for (other, second, answer) in WORDS {
-            asked(&[other, word], second).listed(answer);
+            asked(&format!("{other} {file}"), second).listed(answer);
         }
-        asked(&[word, word], second).listed(answer);
+        asked(&format!("{word} {file}"), second).listed(answer);
     }
 }
 
@@ -253,7 +283,7 @@ fn an_answer_that_is_lost_is_status_3() {
             let (reader, writer) = io::pipe().expect("a pipe");
             drop(reader);
             let status = Command::new(script())
-                .arg(word)
+                .args(word.split(' '))
                 .arg(plan)
                 .args(place(second))
                 .stdout(writer)

@@ -208,17 +208,7 @@ fn without_a_route_the_room_is_silent_whenever_it_is_open() {
     );
 }
 
-/// Numbers that look drawn.
-struct Drawn(u64);
-
 impl Drawn {
-    /// One below a bound.
-    fn below(&mut self, bound: u32) -> u32 {
-        self.0 = self.0.wrapping_mul(6364136223846793005);
-        self.0 = self.0.wrapping_add(1442695040888963407);
-        (self.0 >> 33) as u32 % bound
-    }
-
     /// A window that may run across the week's end, and one of the ways to write it. Its starts and
     /// ends are few, so that windows meet.
     fn window(&mut self) -> (Held, String) {

@@ -9,6 +9,8 @@
 --   Played N log lent r n after     playing the log back for N into bytes that held `lent` gives the refusal r and the count n, and leaves
 --                        `after` in them
 --   Counted N o w r n    counting the silent minutes of N with opening windows o and works windows w gives the refusal r and the minutes n
+--   Drilled N n f r steps e k m     drilling N from the start number n on, at the failure setting f and the repair setting r, gives the
+--                        refusal e, the steps k and the number m
 --   Total N c r m        adding up the metres of the set c in N gives the refusal r and the total m
 --   Tabled N cuts r table    counting the rows `cuts` by width in N gives the refusal r and the table
 --
@@ -25,6 +27,7 @@ use Rattle.connectivity.specs.Answers.{relevantOf, verdictOf, numbersOf}
 use Rattle.lengths.specs.Lengths.{totalOf}
 use Rattle.replay.specs.Replay.{replayedBy, silentAfter}
 use Rattle.maintenance.specs.Outage.{outageOf}
+use Rattle.simulation.specs.Simulation.{simulatedBy}
 use Rattle.widths.specs.Widths.{widthsOf}
 
 pub record Read (s : List ℕ) (r : ℕ) (N : Network) : Type 0 where
@@ -60,6 +63,11 @@ pub record Played (N : Network) (log lent : List ℕ) (r n : ℕ) (after : List 
 pub record Counted (N : Network) (o w : List ℕ) (r n : ℕ) : Type 0 where
   pub refusal : r ≡ outageOf N o w .refusal
   pub minutes : n ≡ outageOf N o w .minutes
+
+pub record Drilled (N : Network) (n f r steps e k m : ℕ) : Type 0 where
+  pub refusal : e ≡ simulatedBy N n f r steps .refusal
+  pub silent : k ≡ simulatedBy N n f r steps .silent
+  pub number : m ≡ simulatedBy N n f r steps .number
 
 pub record Total (N : Network) (c r m : ℕ) : Type 0 where
   pub refusal : r ≡ totalOf N c .refusal

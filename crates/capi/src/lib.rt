@@ -16,7 +16,8 @@ ghost use Rattle.listing.specs.List.{Listing, ListMeans};
 ghost use Rattle.listing.specs.Trimmed.{TrimmedListing, TrimmedMeans};
 ghost use Rattle.replay.specs.Replay.{ReplayMeans};
 ghost use Rattle.maintenance.specs.Outage.{OutageMeans};
-ghost use Rattle.capi.specs.Fields.{Read, Written, Found, Judged, JudgedMeans, Played, Counted, Total, Tabled};
+ghost use Rattle.simulation.specs.Simulation.{SimulationMeans};
+ghost use Rattle.capi.specs.Fields.{Read, Written, Found, Judged, JudgedMeans, Played, Counted, Drilled, Total, Tabled};
 
 // Reads a plan. Gives the refusal's number, 0 if there is none, and fills in the record, all zero on refusal.
 #[no_mangle]
@@ -287,6 +288,34 @@ pub extern "C" fn cutlist_silent_minutes(
     let outage = maintenance::silent_minutes(scheduled, openings, works);
     *minutes = outage.minutes;
     outage.refusal
+}
+
+// Drills a hall from a start number on: in each step each cable present takes one draw, by which it fails or is repaired. Gives the refusal's
+// number, 0 if there is none, and fills in how many steps end with a minimal cut wholly down and the final number, both 0 on refusal.
+#[no_mangle]
+pub extern "C" fn cutlist_simulate(
+    nodes: u8,
+    source: u8,
+    sink: u8,
+    present: u64,
+    first: &[u8; 64],
+    second: &[u8; 64],
+    metres: &[u16; 64],
+    start: u64,
+    failure: u8,
+    repair: u8,
+    steps: u64,
+    silent: &mut u64,
+    number: &mut u64,
+) -> u8
+    ensures { λ r. ⌜ Drilled (assembled nodes source sink present (now (first .entry)) (now (second .entry)) (now (metres .entry))) start failure repair steps r (now (silent .exit)) (now (number .exit)) ⌝ }
+    ensures means { λ r. ⌜ SimulationMeans (assembled nodes source sink present (now (first .entry)) (now (second .entry)) (now (metres .entry))) start failure repair steps r (now (silent .exit)) (now (number .exit)) ⌝ }
+{
+    let drilled = assemble(nodes, source, sink, present, first, second, metres);
+    let simulated = simulation::simulate(drilled, start, failure, repair, steps);
+    *silent = simulated.silent;
+    *number = simulated.number;
+    simulated.refusal
 }
 
 // Counts the rows of a list by width, the number of different pairs of points that a row's cables join. Gives the refusal's number, 0 if

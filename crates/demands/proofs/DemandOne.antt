@@ -59,10 +59,14 @@ use Rattle.maintenance.specs.Outage.{tooMany, outageRefusal, outageOf}
 use Rattle.windows.proofs.Windows.{WorksCase, openings-case, works-case}
 use Rattle.maintenance.proofs.Meaning.{few, outage-refused, outage-counted, outage-none, outage-means, refusal-many, refusal-openings, refusal-works}
 use Rattle.maintenance.proofs.Meaning as outages
+use Rattle.simulation.specs.declared.Simulated.{Simulated}
+use Rattle.simulation.specs.Steps.{stateAfter}
+use Rattle.simulation.specs.Simulation.{silentSteps, simulatedBy}
+use Rattle.simulation.proofs.Meaning as drills
 use Rattle.text.specs.Text.{refusalLine, maxRows}
 use Rattle.report.specs.Report.{listReport, reportOf}
 use Rattle.report.proofs.Reports.{report-outnumbered, report-complete}
-use Rattle.demands.specs.Endings.{ReaderEnds, PartEnds, JudgingEnds, TotalEnds, WidthsEnds, Kept, ListEnds, TrimmedEnds, ReplayEnds, OutageEnds, WriterEnds, ReportEnds}
+use Rattle.demands.specs.Endings.{ReaderEnds, PartEnds, JudgingEnds, TotalEnds, WidthsEnds, Kept, ListEnds, TrimmedEnds, ReplayEnds, OutageEnds, SimulationEnds, WriterEnds, ReportEnds}
 use Rattle.demands.specs.Demands.{DemandOne}
 
 -- A record without a fault keeps the rules.
@@ -297,6 +301,29 @@ module _ (N : Network) (stored : Stored N) (o w : List ℕ) where
       go (yes ok) (no h) (yes h′) = many ok (inr h′)
       go (yes ok) (no h) (no h′) = outage-windows (rules N ok) (few o w .1 (omega arith, omega arith)) ok
 
+-- ---- drilling
+
+module _ (N : Network) (stored : Stored N) (n f r steps : ℕ) where
+  -- What ends so is what the call answers.
+  drill-ended : {a : Simulated} → a ≡ simulatedBy N n f r steps → SimulationEnds N n f r steps a → SimulationEnds N n f r steps (simulatedBy N n f r steps)
+  drill-ended a e = subst (SimulationEnds N n f r steps) a e
+
+  simulation : SimulationEnds N n f r steps (simulatedBy N n f r steps)
+  simulation = go (ℕ-discrete (faultOf N) 0) (decLt 65535 steps)
+    where
+      go : Dec (faultOf N ≡ 0) → Dec (65535 < steps) → SimulationEnds N n f r steps (simulatedBy N n f r steps)
+      go (no z) d =
+          drill-ended (drills.simulation-refused N n f r steps (faultOf N) (sym (drills.refusal-faulty N steps z)) z) (SimulationEnds.faulty (some z))
+      go (yes ok) (yes h) =
+          drill-ended (drills.simulation-refused N n f r steps 25 (sym (drills.refusal-many N steps ok h)) (λ z. omega arith))
+          (SimulationEnds.many (rules N ok) h)
+      go (yes ok) (no h) =
+          let fits : steps ≤ 65535 = omega arith in
+          let counted : Simulated = record { refusal = 0; silent = silentSteps N n f r steps; number = stateAfter (present N) n f r steps .number } in
+          let answer = drills.simulation-run N n f r steps counted (drills.refusal-none N steps ok fits) refl refl refl in
+          let means = drills.simulation-means N stored n f r steps answer .1 in
+          drill-ended answer (SimulationEnds.counted _ (rules N ok) fits (means .cut refl))
+
 -- ---- writing
 
 writer : (N : Network) (lent : List ℕ) → WriterEnds N lent (encodedBy N lent) (bytesAfter N lent)
@@ -355,6 +382,7 @@ demand-one = record {
   trimmed = trimmed-list;
   replay = replay;
   outage = outage;
+  simulation = simulation;
   writer = λ N stored. writer N;
   program = program;
 }

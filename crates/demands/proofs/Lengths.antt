@@ -39,6 +39,8 @@ use Rattle.replay.specs.Replay.{replayedBy, silentAfter}
 use Rattle.replay.proofs.Agree.{replay-agrees}
 use Rattle.maintenance.specs.Outage.{outageOf}
 use Rattle.maintenance.proofs.Agree.{outage-agrees}
+use Rattle.simulation.specs.Simulation.{simulatedBy}
+use Rattle.simulation.proofs.Agree.{simulation-agrees}
 use Rattle.demands.specs.Alike.{Alike}
 use Rattle.demands.specs.Lengths.{EdgeFits, LengthPlaces, withMetres, Accepted, MetresUnread}
 use Rattle.demands.proofs.Alike.{alike}
@@ -176,6 +178,9 @@ module _ (N : Network) (l : List ℕ) where
     outage : (o w : List ℕ) → outageOf M o w ≡ outageOf N o w
     outage o w = outage-agrees M N (b .stored) (a .stored) (b .faultless) (a .faultless) agree o w refl
 
+    simulation : (n f r steps : ℕ) → simulatedBy M n f r steps ≡ simulatedBy N n f r steps
+    simulation = simulation-agrees M N (b .stored) (a .stored) (b .faultless) (a .faultless) agree refl
+
     counts : (cuts sides : List ℕ) → listedBy M cuts sides .count ≡ listedBy N cuts sides .count
     counts cuts sides = ap (λ (x : Listed). x .count) (answers .list cuts sides .0)
 
@@ -201,5 +206,6 @@ metres-unread = record {
   trimmed = trimmed;
   replay = replay;
   outage = outage;
+  simulation = simulation;
   equality = equality;
 }

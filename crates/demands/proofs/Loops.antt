@@ -39,6 +39,7 @@ use Rattle.replay.specs.Replay.{replayRefusal, replayedBy}
 use Rattle.replay.proofs.Events.{LogCase, good, unknown, absent, half, log-case}
 use Rattle.windows.specs.Windows.{openingsFault}
 use Rattle.maintenance.specs.Outage.{tooMany, outageRefusal, outageOf}
+use Rattle.simulation.specs.Simulation.{simulationRefusal, simulatedBy}
 use Rattle.windows.proofs.Windows.{WorksCase, good as kept, bad, absent as missing, works-case, openings-case}
 use Rattle.text.specs.Text.{digits, decimal, wordLine, refusalLine, listText, maxRows}
 use Rattle.report.specs.Report.{listReport, reportOf}
@@ -200,7 +201,7 @@ outage N o w =
     (then-other (openingsFault o) (openings-fault o) (works-fault (works-case (present N) w))))
 
 pub ten-gone : TenGone
-unfolding among totalOf widthsOf listedBy trimmedFault trimmedRefusal trimmedListedBy encodedBy encodeRefusal
+unfolding among totalOf widthsOf listedBy trimmedFault trimmedRefusal trimmedListedBy simulatedBy simulationRefusal encodedBy encodeRefusal
 ten-gone = record {
   reader = λ s e. rw e at (decode-answer s .number);
   test = test;
@@ -212,6 +213,7 @@ ten-gone = record {
   trimmed = λ N cuts sides. then-other (trimmedFault N) (then-other (faultOf N) (test N) (when-other 26 _ (λ e. omega arith) (omega arith))) (list N cuts sides);
   replay = replay;
   outage = outage;
+  simulation = λ N n f r steps. then-other (faultOf N) (test N) (when-other 25 _ (λ e. omega arith) (omega arith));
   writer = λ N lent. then-other (faultOf N) (test N) (when-other 15 _ (λ e. omega arith) (omega arith));
   program = program;
 }

@@ -1,7 +1,7 @@
 -- The customer's three demands, as statements about the calls. What a call answers and leaves is what its contract says: `decodeOf`,
--- `faultOf`, `relevantOf`, `verdictOf`, `totalOf`, `widthsOf`, `outageOf`, `listedBy` and `trimmedListedBy` with the rows afterwards,
--- `replayedBy` and `encodedBy` with the bytes afterwards, and `reportOf` of the program. What the types of the code say of any record,
--- `Stored N`, is in the contract of every call that takes one, and what they say of any bytes, `Bytes s`, in that of the reader.
+-- `faultOf`, `relevantOf`, `verdictOf`, `totalOf`, `widthsOf`, `outageOf`, `simulatedBy`, `listedBy` and `trimmedListedBy` with the rows
+-- afterwards, `replayedBy` and `encodedBy` with the bytes afterwards, and `reportOf` of the program. What the types of the code say of
+-- any record, `Stored N`, is in the contract of every call that takes one, and what they say of any bytes, `Bytes s`, in that of the reader.
 -- To believe.
 --
 --   DemandOne        every call ends with the complete result or with the refusal that its own condition calls for
@@ -25,8 +25,9 @@ use Rattle.listing.specs.List.{listedBy, cutRowsAfter, sideRowsAfter}
 use Rattle.listing.specs.Trimmed.{trimmedListedBy, trimmedCutRows, trimmedSideRows}
 use Rattle.replay.specs.Replay.{replayedBy, silentAfter}
 use Rattle.maintenance.specs.Outage.{outageOf}
+use Rattle.simulation.specs.Simulation.{simulatedBy}
 use Rattle.report.specs.Report.{reportOf}
-use Rattle.demands.specs.Endings.{ReaderEnds, PartEnds, JudgingEnds, TotalEnds, WidthsEnds, ListEnds, TrimmedEnds, ReplayEnds, OutageEnds, WriterEnds, ReportEnds}
+use Rattle.demands.specs.Endings.{ReaderEnds, PartEnds, JudgingEnds, TotalEnds, WidthsEnds, ListEnds, TrimmedEnds, ReplayEnds, OutageEnds, SimulationEnds, WriterEnds, ReportEnds}
 
 pub record DemandOne : Type 0 where
   -- The record test finds no fault exactly if the record keeps the rules.
@@ -47,6 +48,7 @@ pub record DemandOne : Type 0 where
       → TrimmedEnds N cuts sides (trimmedListedBy N cuts sides) (trimmedCutRows N cuts sides) (trimmedSideRows N cuts sides)
   pub replay : (N : Network) → Stored N → (log lent : List ℕ) → ReplayEnds N log lent (replayedBy N log lent) (silentAfter N log lent)
   pub outage : (N : Network) → Stored N → (o w : List ℕ) → OutageEnds N o w (outageOf N o w)
+  pub simulation : (N : Network) → Stored N → (n f r steps : ℕ) → SimulationEnds N n f r steps (simulatedBy N n f r steps)
   pub writer : (N : Network) → Stored N → (lent : List ℕ) → WriterEnds N lent (encodedBy N lent) (bytesAfter N lent)
   pub program : (s : List ℕ) → ReportEnds s (reportOf s)
 

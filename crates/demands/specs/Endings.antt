@@ -15,6 +15,7 @@
 --   TrimmedEnds N cuts sides l cuts′ sides′  listing N, trimmed already, into such rows gives l and leaves cuts′ and sides′
 --   ReplayEnds N log lent a after    playing the log back for N into bytes that held `lent` gives a and leaves `after`
 --   OutageEnds N o w a               counting the silent minutes of N with opening windows o and works windows w gives a
+--   SimulationEnds N n f r steps a   drilling N from the start number n on, at the failure setting f and the repair setting r, gives a
 --   WriterEnds N lent e after        writing N into a buffer that held `lent` gives e and leaves `after`
 --   ReportEnds s t                   for the input s the list program prints t
 use mathlib.Core.List.{List}
@@ -48,6 +49,9 @@ use Rattle.maintenance.specs.declared.Outage.{Outage}
 use Rattle.sequences.specs.Counts.{Exactly}
 use Rattle.windows.specs.Windows.{week, isOpen, outAt, openingCount, worksCount, Openings, BadWindow, AbsentEdge}
 use Rattle.maintenance.specs.Outage.{WindowRules}
+use Rattle.simulation.specs.declared.Simulated.{Simulated}
+use Rattle.simulation.specs.Steps.{stateAfter}
+use Rattle.simulation.specs.Simulation.{StepsWhere}
 use Rattle.text.specs.Text.{refusalLine, listText, maxRows}
 
 -- A plan within the rules is read; any other bytes are refused with one of the reader's numbers, beside the all-zero record.
@@ -125,6 +129,13 @@ pub data OutageEnds (N : Network) (o w : List ℕ) : Outage → Type 0 where
       → OutageEnds N o w (record { refusal = 24; minutes = 0 })
   absent : Rules N → openingCount o ≤ 14 → worksCount w ≤ 16 → Openings o → AbsentEdge (present N) w
       → OutageEnds N o w (record { refusal = 17; minutes = 0 })
+
+-- The steps that end with a minimal cut wholly down, and the last number; 25 for too many steps. On refusal both are 0.
+pub data SimulationEnds (N : Network) (n f r steps : ℕ) : Simulated → Type 0 where
+  counted : (k : ℕ) → Rules N → steps ≤ 65535 → StepsWhere N n f r steps (HoldsMincut N) k
+      → SimulationEnds N n f r steps (record { refusal = 0; silent = k; number = stateAfter (present N) n f r steps .number })
+  faulty : 0 < faultOf N → SimulationEnds N n f r steps (record { refusal = faultOf N; silent = 0; number = 0 })
+  many : Rules N → 65535 < steps → SimulationEnds N n f r steps (record { refusal = 25; silent = 0; number = 0 })
 
 -- The plan's bytes and later bytes as they were; 15 for a buffer that is too short.
 pub data WriterEnds (N : Network) (lent : List ℕ) : Encoded → List ℕ → Type 0 where

@@ -25,6 +25,7 @@ use Rattle.listing.specs.List.{listedBy, cutRowsAfter}
 use Rattle.listing.specs.Trimmed.{trimmedListedBy, trimmedCutRows, trimmedSideRows}
 use Rattle.replay.specs.Replay.{replayedBy, silentAfter}
 use Rattle.maintenance.specs.Outage.{outageOf}
+use Rattle.simulation.specs.Simulation.{simulatedBy}
 use Rattle.demands.specs.Alike.{Alike}
 
 -- ---- in bytes
@@ -81,6 +82,8 @@ pub record MetresUnread : Type 0 where
       → (replayedBy (withMetres N l) log lent ≡ replayedBy N log lent) × (silentAfter (withMetres N l) log lent ≡ silentAfter N log lent)
   -- On works windows with an absent cable too.
   pub outage : (N : Network) (l : List ℕ) → Accepted N → Accepted (withMetres N l) → (o w : List ℕ) → outageOf (withMetres N l) o w ≡ outageOf N o w
+  pub simulation : (N : Network) (l : List ℕ) → Accepted N → Accepted (withMetres N l) → (n f r steps : ℕ)
+      → simulatedBy (withMetres N l) n f r steps ≡ simulatedBy N n f r steps
   -- Two lists are equal, or not, whatever the metres of either plan.
   pub equality : (N M : Network) (l m : List ℕ) → Accepted N → Accepted (withMetres N l) → Accepted M → Accepted (withMetres M m)
       → (cuts sides cuts′ sides′ : List ℕ)

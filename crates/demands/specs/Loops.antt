@@ -23,6 +23,7 @@ use Rattle.listing.specs.List.{listedBy}
 use Rattle.listing.specs.Trimmed.{trimmedListedBy}
 use Rattle.replay.specs.Replay.{replayedBy}
 use Rattle.maintenance.specs.Outage.{outageOf}
+use Rattle.simulation.specs.Simulation.{simulatedBy}
 use Rattle.text.specs.Text.{refusalLine}
 use Rattle.report.specs.Report.{reportOf}
 use Rattle.demands.specs.Alike.{Alike}
@@ -53,5 +54,6 @@ pub record TenGone : Type 0 where
   pub trimmed : (N : Network) (cuts sides : List ℕ) → trimmedListedBy N cuts sides .refusal ≡ 10 → ⊥
   pub replay : (N : Network) (log lent : List ℕ) → replayedBy N log lent .refusal ≡ 10 → ⊥
   pub outage : (N : Network) (o w : List ℕ) → outageOf N o w .refusal ≡ 10 → ⊥
+  pub simulation : (N : Network) (n f r steps : ℕ) → simulatedBy N n f r steps .refusal ≡ 10 → ⊥
   pub writer : (N : Network) (lent : List ℕ) → encodedBy N lent .refusal ≡ 10 → ⊥
   pub program : (s : List ℕ) → reportOf s ≡ refusalLine 10 → ⊥

@@ -33,6 +33,9 @@ pub const TOO_MANY_WINDOWS: u8 = 23; // more than 14 opening windows, or more th
 
 pub const BAD_WINDOW: u8 = 24; // a window whose start is not below its end or whose end is above 10,080, or a piece of one
 
+// By the one who set the drill.
+pub const TOO_MANY_STEPS: u8 = 25; // more than 65,535 steps
+
 // By the program that calls.
 pub const ROWS_DIFFER: u8 = 11; // cut rows and side rows differ in number
 

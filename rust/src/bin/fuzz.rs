@@ -10,10 +10,12 @@
 //!   --file FILE    the bytes of a file alone
 //!   --smoke        a fixed seed and number of cases, which must meet every kind of answer
 //!   --digest       one number for all that the library answers on the cases of the smoke run, or on
-//!                  those of --seed and --cases, but for the lists of trimmed plans, logs, weeks and widths
+//!                  those of --seed and --cases, but for the lists of trimmed plans, logs, weeks, drills
+//!                  and widths
 //!   --trimmed      with --digest: the number of these lists alone
 //!   --replay       with --digest: the number of what is written for logs alone
 //!   --works        with --digest: the number of the silent minutes of weeks alone
+//!   --drills       with --digest: the number of what comes of drills alone
 //!   --widths       with --digest: the number of the width tables alone
 //!   --without-loops
 //!                  with --digest: leaves out the cases in which a cable has both ends at one point, so
@@ -31,7 +33,7 @@ use std::time::{Duration, Instant, SystemTime, UNIX_EPOCH};
 use cutlist_tests::fuzz::case::Case;
 use cutlist_tests::fuzz::counts::Counts;
 use cutlist_tests::fuzz::digest::{
-    digest, replay_digest, trimmed_digest, widths_digest, works_digest,
+    digest, drills_digest, replay_digest, trimmed_digest, widths_digest, works_digest,
 };
 use cutlist_tests::fuzz::search::{panic_of, search, Difference};
 use cutlist_tests::fuzz::shrinking::shrink;
@@ -59,6 +61,7 @@ struct Options {
     trimmed: bool,
     replay: bool,
     works: bool,
+    drills: bool,
     widths: bool,
     without_loops: bool,
     without_lengths: bool,
@@ -82,6 +85,7 @@ impl Options {
                 "--trimmed" => options.trimmed = true,
                 "--replay" => options.replay = true,
                 "--works" => options.works = true,
+                "--drills" => options.drills = true,
                 "--widths" => options.widths = true,
                 "--without-loops" => options.without_loops = true,
                 "--without-lengths" => options.without_lengths = true,
@@ -92,6 +96,7 @@ impl Options {
             (options.trimmed, "--trimmed"),
             (options.replay, "--replay"),
             (options.works, "--works"),
+            (options.drills, "--drills"),
             (options.widths, "--widths"),
             (options.without_loops, "--without-loops"),
             (options.without_lengths, "--without-lengths"),
@@ -104,12 +109,14 @@ impl Options {
             options.trimmed,
             options.replay,
             options.works,
+            options.drills,
             options.widths,
         ];
         match alone.into_iter().filter(|&given| given).count() {
             0 | 1 => Ok(options),
             _ => Err(
-                "--trimmed, --replay, --works and --widths are numbers of their own".to_string(),
+                "--trimmed, --replay, --works, --drills and --widths are numbers of their own"
+                    .to_string(),
             ),
         }
     }
@@ -145,6 +152,7 @@ fn tell_digest(options: &Options) -> ExitCode {
         Options { trimmed: true, .. } => trimmed_digest(cases),
         Options { replay: true, .. } => replay_digest(cases),
         Options { works: true, .. } => works_digest(cases),
+        Options { drills: true, .. } => drills_digest(cases),
         Options { widths: true, .. } => widths_digest(cases),
         _ => digest(cases),
     };
@@ -244,6 +252,7 @@ fn tell(bytes: &[u8]) -> bool {
         "openings {:?}, works {:?}",
         case.week.openings, case.week.works
     );
+    println!("{:?}", case.drill);
     let difference = ask_alone(bytes);
     match &difference {
         Some(message) => println!("differs: {message}"),

@@ -5,6 +5,7 @@
 use std::array;
 
 use crate::brute::members;
+use crate::drills::Drill;
 use crate::logs;
 use crate::record::{Record, MOST_NODES, SLOTS};
 use crate::reference::{MOST_OPENINGS, MOST_WORKS};
@@ -50,6 +51,9 @@ pub struct Case<'a> {
     /// The week whose silent minutes are counted: drawn from the set but for its lowest three bytes, of
     /// which the second and the third say how many numbers openings and works have.
     pub week: Week,
+    /// The drill: the set's fourth byte says how many steps there are, the fifth and the sixth are the
+    /// settings, and without these three the set is the start number.
+    pub drill: Drill,
 }
 
 /// A size: measured from what is needed, from the least that always suffices, or from nothing.
@@ -118,7 +122,7 @@ impl Case<'_> {
             ..record(&fields)
         };
 
-        let [length, openings, works, ..] = set.to_le_bytes();
+        let [length, openings, works, steps, failure, repair, ..] = set.to_le_bytes();
         let log = logs::log(&mut Rng::new(set >> 8), &record, length.into());
         // Up to two windows more than are fit, and pieces of them.
         let week = weeks::week(
@@ -127,6 +131,12 @@ impl Case<'_> {
             usize::from(openings) % (2 * MOST_OPENINGS + 4),
             usize::from(works) % (3 * MOST_WORKS + 5),
         );
+        let drill = Drill {
+            start: set & !(0xFF_FFFF << 24),
+            failure,
+            repair,
+            steps: u64::from(steps) % 64,
+        };
 
         Case {
             body,
@@ -143,6 +153,7 @@ impl Case<'_> {
             set,
             log,
             week,
+            drill,
         }
     }
 

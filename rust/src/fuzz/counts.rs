@@ -5,9 +5,12 @@ use std::fmt;
 use crate::answers::Part;
 use crate::answers::Verdict::{Minimal, NotCut, NotMinimal};
 use crate::brute::{self, members};
+use crate::drills::Drill;
 use crate::plans;
 use crate::record::{Record, MOST_NODES};
-use crate::reference::{self, FAULTS, LONGEST_PLAN, MOST_OPENINGS, MOST_WORKS, READING, WEEK};
+use crate::reference::{
+    self, FAULTS, LONGEST_PLAN, MOST_OPENINGS, MOST_STEPS, MOST_WORKS, READING, WEEK,
+};
 use crate::sides;
 use crate::tally::{Tally, Verdicts};
 use crate::weeks::Week;
@@ -29,6 +32,7 @@ pub struct Counts {
     pub list_trimmed: Tally,
     pub replay: Tally,
     pub silent_minutes: Tally,
+    pub simulate: Tally,
     pub widths: Tally,
     pub verdicts: Verdicts,
     /// Halls with a complete list, by length: one row, or more.
@@ -93,6 +97,26 @@ pub struct Counts {
     /// Weeks refused for the number of a cable whose lowest six bits are a present one's, and whose lowest
     /// eight are.
     pub aliases: [u64; 2],
+    /// Drills that were not refused: those without a step, and of the others those of whose steps none is
+    /// silent, some are and all are; the most steps. Steps at which the room went silent and at which it
+    /// came back.
+    pub drills_without_a_step: u64,
+    pub heard_drills: u64,
+    pub partly_silent_drills: u64,
+    pub silent_drills: u64,
+    pub most_steps: u64,
+    pub steps_that_silence: u64,
+    pub steps_that_bring_back: u64,
+    /// Of those with a step: those at failure setting 0 where none is silent; those at repair setting 0
+    /// where some are, and which; those on halls without a cable, and with gaps in the cable numbers.
+    pub drills_without_failures: u64,
+    pub drills_without_repairs: u64,
+    pub drills_without_a_cable: u64,
+    pub drills_with_gaps: u64,
+    /// Drills with too many steps: those whose lowest 32 bits are as many as are fit, and those on plans
+    /// with a fault, which comes first.
+    pub narrow_steps: u64,
+    pub faults_before_steps: u64,
     /// Rows counted by width: all, those that are narrower than they have cables, and those that hold a
     /// cable and not the lowest of those between the same points. Lists without a row.
     pub rows_counted: u64,
@@ -246,6 +270,39 @@ impl Counts {
         self.touching_windows += u64::from(touch(&openings) || touch(&works));
     }
 
+    /// Notes the answer to a drill, and after which steps the room is silent.
+    pub fn drilled(&mut self, record: &Record, drill: &Drill, number: u8, silent: &[bool]) {
+        self.simulate.count(number);
+        match number {
+            0 => self.steps_counted(record, drill, silent),
+            25 => self.narrow_steps += u64::from(drill.steps % (1 << 32) <= MOST_STEPS),
+            _ => self.faults_before_steps += u64::from(drill.steps > MOST_STEPS),
+        }
+    }
+
+    /// Notes a drill that was not refused.
+    fn steps_counted(&mut self, record: &Record, drill: &Drill, silent: &[bool]) {
+        if silent.is_empty() {
+            self.drills_without_a_step += 1;
+            return;
+        }
+        let (some, all) = (silent.contains(&true), !silent.contains(&false));
+        match (some, all) {
+            (false, _) => self.heard_drills += 1,
+            (_, false) => self.partly_silent_drills += 1,
+            _ => self.silent_drills += 1,
+        }
+        self.most_steps = self.most_steps.max(drill.steps);
+        let changes = |from, to| silent.windows(2).filter(|pair| *pair == [from, to]).count();
+        self.steps_that_silence += changes(false, true) as u64;
+        self.steps_that_bring_back += changes(true, false) as u64;
+        self.drills_without_failures += u64::from(drill.failure == 0 && !some);
+        self.drills_without_repairs += u64::from(drill.repair == 0 && some && !all);
+        self.drills_without_a_cable += u64::from(record.present == 0);
+        let gaps = record.present.leading_zeros() + record.present.count_ones() < u64::BITS;
+        self.drills_with_gaps += u64::from(gaps);
+    }
+
     /// Notes the answer to a list that was to be counted by width.
     pub fn counted(&mut self, record: &Record, rows: &[u64], number: u8) {
         self.widths.count(number);
@@ -266,7 +323,7 @@ impl Counts {
     }
 
     /// Every refusal of every function occurred and no other, every verdict, short and long lists,
-    /// long ways, loops, trimmed halls, lengths, logs, weeks and widths.
+    /// long ways, loops, trimmed halls, lengths, logs, weeks, drills and widths.
     pub fn assert_wide(&self) {
         for (tally, of_the_plan, more) in [
             (&self.decode, READING, &[][..]),
@@ -279,6 +336,7 @@ impl Counts {
             (&self.list_trimmed, FAULTS, &[26, 11, 12]),
             (&self.replay, FAULTS, &[16, 17, 18]),
             (&self.silent_minutes, FAULTS, &[17, 23, 24]),
+            (&self.simulate, FAULTS, &[25]),
             (&self.widths, FAULTS, &[14]),
         ] {
             let numbers = [&[0], of_the_plan, more].concat();
@@ -339,6 +397,20 @@ impl Counts {
             refused.as_flattened().iter().all(|&weeks| weeks >= 500),
             "{self}"
         );
+        self.simulate.assert_each(&[0, 25], 20_000);
+        assert!(self.drills_without_a_step >= 1_000, "{self}");
+        assert!(self.heard_drills >= 5_000, "{self}");
+        assert!(self.partly_silent_drills >= 5_000, "{self}");
+        assert!(self.silent_drills >= 5_000, "{self}");
+        assert_eq!(self.most_steps, MOST_STEPS, "{self}");
+        assert!(self.steps_that_silence >= 20_000, "{self}");
+        assert!(self.steps_that_bring_back >= 20_000, "{self}");
+        assert!(self.drills_without_failures >= 500, "{self}");
+        assert!(self.drills_without_repairs >= 300, "{self}");
+        assert!(self.drills_without_a_cable >= 500, "{self}");
+        assert!(self.drills_with_gaps >= 5_000, "{self}");
+        assert!(self.narrow_steps >= 5_000, "{self}");
+        assert!(self.faults_before_steps >= 5_000, "{self}");
         self.widths.assert_each(&[0, 14], 40_000);
         assert!(self.narrow_rows >= 100_000, "{self}");
         assert!(self.rows_without_the_lowest >= 100_000, "{self}");
@@ -362,6 +434,7 @@ impl fmt::Display for Counts {
             ("list_trimmed", &self.list_trimmed),
             ("replay", &self.replay),
             ("silent_minutes", &self.silent_minutes),
+            ("simulate", &self.simulate),
             ("widths", &self.widths),
         ] {
             questions.push(format!("{name} {}", tally.total()));
@@ -392,6 +465,10 @@ impl fmt::Display for Counts {
              {} with windows that touch; weeks refused by openings and by works: \
              {:?} for too many windows, {:?} for a whole one, {:?} for a piece alone; \
              for a cable that in six bits, and in eight, is another's number: {:?}; \
+             drills: {} without a step, {} heard, {} partly silent, {} silent, of up to {} steps; \
+             {} steps that silence, {} that bring back; {} heard at failure setting 0, \
+             {} partly silent at repair setting 0, {} without a cable, {} with gaps in the cable numbers; \
+             too many steps: {} that in 32 bits are few, {} behind a fault of the plan; \
              {} rows counted, {} of them narrower than they have cables, {} without the lowest cable of a pair; \
              {} lists without a row counted",
             all.of(0),
@@ -436,6 +513,19 @@ impl fmt::Display for Counts {
             self.bad_windows,
             self.pieces,
             self.aliases,
+            self.drills_without_a_step,
+            self.heard_drills,
+            self.partly_silent_drills,
+            self.silent_drills,
+            self.most_steps,
+            self.steps_that_silence,
+            self.steps_that_bring_back,
+            self.drills_without_failures,
+            self.drills_without_repairs,
+            self.drills_without_a_cable,
+            self.drills_with_gaps,
+            self.narrow_steps,
+            self.faults_before_steps,
             self.rows_counted,
             self.narrow_rows,
             self.rows_without_the_lowest,

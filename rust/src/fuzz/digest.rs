@@ -3,12 +3,14 @@
 //! it was. The reference has no part in it, and neither have names and types: a number counts as its
 //! eight bytes, whatever its width. Lengths count where there are any: a case without them gives the
 //! number that it gave before plans had them. The lists of trimmed plans have a number of their own,
-//! and so have the logs, the silent minutes of weeks and the width tables.
+//! and so have the logs, the silent minutes of weeks, the drills and the width tables.
 
 use crate::answers::Nodes;
 use crate::brute::members;
 use crate::fuzz::case::{self, Case};
-use crate::fuzz::questions::{self, ample, lent_bytes, lent_rows, logs, sets, weeks, LONGEST_LIST};
+use crate::fuzz::questions::{
+    self, ample, drills, lent_bytes, lent_rows, logs, sets, weeks, LONGEST_LIST,
+};
 use crate::lent;
 use crate::plans;
 use crate::record::Record;
@@ -85,6 +87,17 @@ pub fn works_digest(cases: impl IntoIterator<Item = Vec<u8>>) -> u64 {
     })
 }
 
+/// The number of what comes of their drills.
+pub fn drills_digest(cases: impl IntoIterator<Item = Vec<u8>>) -> u64 {
+    digest_of(cases, |case, digest| {
+        for drill in drills(case) {
+            let (refusal, simulated) = sys::simulate(&case.record, &drill);
+            digest.number(refusal);
+            digest.numbers(&[simulated.silent, simulated.number]);
+        }
+    })
+}
+
 /// The number of their width tables.
 pub fn widths_digest(cases: impl IntoIterator<Item = Vec<u8>>) -> u64 {
     digest_of(cases, |case, digest| {
@@ -115,7 +128,7 @@ fn digest_of(
     digest.0
 }
 
-/// Asks every function but those for trimmed plans, for logs, for weeks and for widths.
+/// Asks every function but those for trimmed plans, for logs, for weeks, for drills and for widths.
 fn answers(case: &Case, digest: &mut Digest) {
     let record = &case.record;
     let mut rng = Rng::new(case.set);

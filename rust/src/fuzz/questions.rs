@@ -1,13 +1,14 @@
 //! The questions of a case, put to the library and to the reference. A difference is a panic.
 
 use crate::answers::{Part, Row, Verdict};
+use crate::drills::{self, Drill};
 use crate::fuzz::case::{self, Case, Size};
 use crate::fuzz::counts::Counts;
 use crate::lent;
 use crate::lists;
 use crate::logs;
 use crate::record::{Record, SLOTS};
-use crate::reference::LONGEST_PLAN;
+use crate::reference::{LONGEST_PLAN, MOST_STEPS};
 use crate::rng::Rng;
 use crate::weeks::{self, Week};
 use crate::{brute, compare, plans, sides};
@@ -70,6 +71,7 @@ fn on_the_record(case: &Case, counts: &mut Counts) {
     let is_silent = |down| known.is_silent(record, &cuts, down);
     playing_back(case, &cuts, is_silent, counts);
     counting_minutes(case, &cuts, is_silent, counts);
+    drilling(case, is_silent, counts);
     if !cuts.is_empty() {
         counts.listed(cuts.len(), known.part);
     }
@@ -134,6 +136,14 @@ fn counting_minutes(
         let (number, minutes) =
             compare::silent_minutes(record, &week.openings, &week.works, is_silent);
         counts.planned(record, &week, number, minutes);
+    }
+}
+
+fn drilling(case: &Case, is_silent: impl Fn(u64) -> bool + Copy, counts: &mut Counts) {
+    let record = &case.record;
+    for drill in drills(case) {
+        let (number, silent) = compare::simulate(record, &drill, is_silent);
+        counts.drilled(record, &drill, number, &silent);
     }
 }
 
@@ -239,6 +249,25 @@ pub fn weeks(case: &Case, cuts: &[u64]) -> Vec<Week> {
     let mut all = vec![case.week.clone(), whole, damaged];
     all.extend(one_of(case, cuts).and_then(|cut| weeks::all_out(&mut rng, cut)));
     all
+}
+
+/// The drills: that of the case, one of other draws, and that of the case with too many steps, or rarely
+/// with the most, for which the reference takes its time.
+pub fn drills(case: &Case) -> Vec<Drill> {
+    let mut rng = Rng::numbered(case.set, 3);
+    let other = drills::fit(&mut rng);
+    let steps = match rng.once_in(4_000) {
+        true => MOST_STEPS,
+        false => drills::too_many_steps(&mut rng),
+    };
+    vec![
+        case.drill,
+        other,
+        Drill {
+            steps,
+            ..case.drill
+        },
+    ]
 }
 
 /// The lists to count by width: any words, rows of the record's cables, those with one cable that it

@@ -1,0 +1,3 @@
+-- The product by halves, and draws.
+pub mod Halves
+pub mod Draws

@@ -1,0 +1,2 @@
+-- The definitions that the contracts of `generator` cite.
+pub mod Generator

@@ -1,0 +1,3 @@
+-- The definitions that the contracts of `simulation` cite.
+pub mod Steps
+pub mod Simulation
