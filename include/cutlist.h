@@ -357,11 +357,13 @@ uint8_t cutlist_silent_minutes(
  * Refusals, in this order: those of cutlist_fault; 25 for more than CUTLIST_MOST_STEPS steps.
  *
  *   start    the start number
- *   failure  the failure setting: of 256 draws so many let a cable that is up fail
- *   repair   the repair setting: of 256 draws so many let a cable that is down be repaired
+ *   failure  the failure setting, 0 to 255: of 256 draws so many let a cable that is up fail
+ *   repair   the repair setting, 0 to 255: of 256 draws so many let a cable that is down be repaired;
+ *            a setting is a byte, and C cuts a larger number to one before the call: 300 to 44
  *   steps    how many steps there are
  *   silent   out: how many steps count; 0 on refusal
- *   number   out: the final number, the start number if nothing was drawn; 0 on refusal
+ *   number   out: the final number, the start number if nothing was drawn; 0 on refusal. A further drill
+ *            can draw from it on, with all cables up again
  */
 uint8_t cutlist_simulate(
     uint8_t nodes,

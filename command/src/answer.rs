@@ -55,9 +55,9 @@ pub fn each(
     Ok(largest)
 }
 
-/// The plan of a file, for a word that takes another file behind it: a plan that has no answer has it
-/// before that file is looked at. If there is no plan, tells why, and gives how it ended. An error is
-/// one of standard output.
+/// The plan of a file, for a word that asks more of a plan than its list: one that has no answer has it
+/// before a second file is looked at. If there is no plan, tells why, and gives how it ended. An error
+/// is one of standard output.
 pub fn plan(file: &OsStr) -> io::Result<Result<Plan, Status>> {
     let Some(plan) = input::plan(file) else {
         return Ok(Err(Status::Unread));

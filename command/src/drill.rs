@@ -8,6 +8,7 @@ use cutlist::{Refusal, Simulated, Simulation};
 
 use crate::answer::{self, Answer};
 use crate::arguments::Given;
+use crate::input::excerpt;
 use crate::output::shown;
 use crate::program::decimal;
 use crate::status::Status;
@@ -22,13 +23,13 @@ pub const OPTIONS: [&str; 4] = [START, FAIL, REPAIR, STEPS];
 
 /// The values that options take.
 const NUMBER: &str = "a number from 0 to 18446744073709551615";
-const SETTINGS: &str = "a setting from 0 to 255, or several parted by commas";
+const SETTINGS: &str = "a setting from 0 to 255, or several parted by commas, each once";
 
 /// What the cells of the table count.
 const SILENT: &str = "silent";
 
-/// Drills of one hall: one for each pair of a failure setting and a repair setting, of each of which
-/// there is at least one.
+/// Drills of one hall: one for each pair of a failure setting and a repair setting. Of either there is at
+/// least one, and none twice: so there are at most 65,536 pairs.
 #[derive(Debug, PartialEq, Eq)]
 pub struct Drills {
     start: u64,
@@ -54,10 +55,16 @@ fn number(name: &str, options: &[Given]) -> Result<u64, String> {
 }
 
 fn settings(name: &str, options: &[Given]) -> Result<Vec<u8>, String> {
-    let parts = value(name, SETTINGS, options)?.split(',');
-    parts
-        .map(|part| decimal(part).ok_or_else(|| none(name, SETTINGS, part)))
-        .collect()
+    let mut settings = Vec::new();
+    for part in value(name, SETTINGS, options)?.split(',') {
+        let setting = decimal(part).ok_or_else(|| none(name, SETTINGS, part))?;
+        if settings.contains(&setting) {
+            let fault = format!("setting {setting} is given twice");
+            return Err(wrong(name, SETTINGS, &fault));
+        }
+        settings.push(setting);
+    }
+    Ok(settings)
 }
 
 /// The value of the option of this name, which must be given once.
@@ -73,7 +80,7 @@ fn value<'a>(name: &str, expected: &str, options: &'a [Given]) -> Result<&'a str
 
 /// What is said of a value, or of a part of it, that is not what the option takes.
 fn none(name: &str, expected: &str, value: &str) -> String {
-    let fault = format!("'{}' is none", shown(value.as_ref()));
+    let fault = format!("'{}' is none", excerpt(value.as_bytes()));
     wrong(name, expected, &fault)
 }
 
@@ -214,7 +221,7 @@ mod tests {
         let name = OPTIONS[place];
         let takes = match name {
             "--start" | "--steps" => "a number from 0 to 18446744073709551615",
-            _ => "a setting from 0 to 255, or several parted by commas",
+            _ => "a setting from 0 to 255, or several parted by commas, each once",
         };
         format!("{name} takes {takes}; {fault}")
     }
@@ -223,14 +230,14 @@ mod tests {
     fn options_are_drills() {
         let expected = Drills {
             start: u64::MAX,
-            failures: vec![255, 0, 7, 0],
+            failures: vec![255, 0, 7, 1],
             repairs: vec![8],
             steps: u64::MAX,
         };
         let most = "18446744073709551615";
-        assert_eq!(asked([most, "255,0,7,0", "8", most]), expected);
+        assert_eq!(asked([most, "255,0,7,1", "8", most]), expected);
         // In any order.
-        let mut options = given([most, "255,0,7,0", "8", most]);
+        let mut options = given([most, "255,0,7,1", "8", most]);
         for _ in 0..4 {
             options.rotate_left(1);
             assert_eq!(drills(&options).as_ref(), Ok(&expected));
@@ -263,7 +270,7 @@ mod tests {
             "18446744073709551616",
             "99999999999999999999999",
         ] {
-            let fault_is = format!("'{value}' is none");
+            let fault_is = format!("'{}' is none", excerpt(value.as_bytes()));
             for place in 0..4 {
                 assert_eq!(fault(place, value), said(place, &fault_is));
             }
@@ -287,8 +294,32 @@ mod tests {
         assert_eq!(fault(3, "1,2"), said(3, "'1,2' is none"));
         assert_eq!(fault(1, "1;2"), said(1, "'1;2' is none"));
         assert_eq!(fault(1, ","), said(1, "'' is none"));
-        // What cannot be seen does not turn the line.
-        assert_eq!(fault(3, "1\n"), said(3, "'1?' is none"));
+        // What cannot be seen does not turn the line, and of what is long the start is shown.
+        assert_eq!(fault(3, "1\n"), said(3, "'1\\n' is none"));
+        let long = "9".repeat(100_000);
+        let shown = format!("'{}..' is none", "9".repeat(40));
+        assert_eq!(fault(0, &long), said(0, &shown));
+        assert_eq!(fault(1, &format!("1,{long}")), said(1, &shown));
+    }
+
+    /// So the table is bounded, however long the list: 256 rows and 256 columns at most.
+    #[test]
+    fn a_setting_stands_in_a_list_once() {
+        let every: Vec<String> = (0..=255).map(|setting| setting.to_string()).collect();
+        let every = every.join(",");
+        let all = asked(["1", &every, &every, "0"]);
+        assert_eq!(all.pairs().len(), 1 << 16);
+        for place in [1, 2] {
+            for (list, twice) in [("8,8", "8"), ("8,4,8", "8"), ("0,255,1,255,0", "255")] {
+                let fault_is = format!("setting {twice} is given twice");
+                assert_eq!(fault(place, list), said(place, &fault_is));
+            }
+            let more = format!("{every},128");
+            assert_eq!(
+                fault(place, &more),
+                said(place, "setting 128 is given twice")
+            );
+        }
     }
 
     #[test]
@@ -348,9 +379,9 @@ mod tests {
             number 18446744073709486080\n\
             silent  | repair 255\n\
             fail 10 |       1255\n\
-            fail 10 |       1255\n";
+            fail 9  |       1155\n";
         let most = "18446744073709551615";
-        assert_eq!(lines([most, "10,10", "255", "65535"]), wide);
+        assert_eq!(lines([most, "10,9", "255", "65535"]), wide);
     }
 
     #[test]

@@ -27,6 +27,7 @@ pub struct Simulated {
     /// How many steps ended with a minimal cut wholly down, which is without a route among the cables
     /// that are up.
     pub silent: u64,
-    /// The final number, from which a further drill can draw. It does not depend on the settings.
+    /// The final number, which does not depend on the settings. A further drill can draw from it on, with
+    /// all cables up again: two drills in a row are not one of as many steps.
     pub number: u64,
 }

@@ -11,7 +11,7 @@ use super::words::DRILLED;
 
 const TOO_MANY_STEPS: &str = "more than 65,535 steps";
 const NUMBER: &str = "a number from 0 to 18446744073709551615";
-const SETTINGS: &str = "a setting from 0 to 255, or several parted by commas";
+const SETTINGS: &str = "a setting from 0 to 255, or several parted by commas, each once";
 
 /// What is asked of the command.
 #[derive(Clone, Debug)]
@@ -157,12 +157,12 @@ fn a_table_has_a_row_and_a_column_for_each_setting_in_the_order_given() {
     };
     table(&[8], &[64], "silent | repair 64\nfail 8 |        20\n");
     table(
-        &[8, 4, 8],
+        &[8, 4, 0],
         &[64, 16],
         "silent | repair 64  repair 16\n\
         fail 8 |        20        173\n\
         fail 4 |         8        120\n\
-        fail 8 |        20        173\n",
+        fail 0 |         0          0\n",
     );
     table(
         &[4, 128, 0],
@@ -196,15 +196,20 @@ impl Drawn {
         plan
     }
 
-    /// One to three settings, at the borders or anywhere.
+    /// One to three settings, at the borders or anywhere, each once.
     fn settings(&mut self) -> Vec<u8> {
-        let count = 1 + self.below(3);
         let borders = [0, 1, 2, 9, 10, 100, 128, 254, 255];
-        let setting = |drawn: &mut Drawn| match drawn.below(2) {
-            0 => borders[drawn.below(9) as usize],
-            _ => drawn.below(256) as u8,
-        };
-        (0..count).map(|_| setting(self)).collect()
+        let mut settings = vec![];
+        for _ in 0..1 + self.below(3) {
+            let setting = match self.below(2) {
+                0 => borders[self.below(9) as usize],
+                _ => self.below(256) as u8,
+            };
+            if !settings.contains(&setting) {
+                settings.push(setting);
+            }
+        }
+        settings
     }
 }
 
@@ -453,6 +458,34 @@ fn each_option_is_given_once_with_a_value() {
         is_wrong(&[&fit[..], &[name]].concat(), &twice);
     }
     is_wrong(&[], &format!("--start takes {NUMBER}; it is missing"));
+}
+
+/// However long a list of settings is, the table has 256 rows and columns at most.
+#[test]
+fn a_setting_is_given_once() {
+    for (list, twice) in [("8,8", 8), ("4,8,16,4", 4)] {
+        for (fail, repair, option) in [(list, "1", "--fail"), ("1", list, "--repair")] {
+            let words = ["--start", "1", "--fail", fail, "--repair", repair];
+            let words = [&words[..], &["--steps", "10"]].concat();
+            let said = format!("{option} takes {SETTINGS}; setting {twice} is given twice");
+            is_wrong(&words, &said);
+        }
+    }
+    let every = Asked {
+        failures: (0..=255).rev().collect(),
+        repairs: (0..=255).collect(),
+        steps: 2,
+        ..Asked::example()
+    };
+    let (lines, counts) = every.by_hand(BRIDGE);
+    every.of(&bridge()).listed(&lines);
+    assert_eq!(counts.len(), 1 << 16);
+    assert!([0, 1, 2].iter().all(|count| counts.contains(count)));
+    // A list of more is as long as an argument can be, and is not made a table.
+    let long = format!("{}8", "8,".repeat(60_000));
+    let words = ["--start=1", "--fail", &long, "--repair", &long, "--steps=0"];
+    let said = format!("--fail takes {SETTINGS}; setting 8 is given twice");
+    is_wrong(&words, &said);
 }
 
 #[test]
