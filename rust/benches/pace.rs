@@ -358,6 +358,23 @@ fn units(names: &[&str], unit: &str, width: usize) -> String {
     format!(" {unit:>width$}") + &others.collect::<String>()
 }
 
+/// The heading of a table of how many of a hundred answers are silent: what each takes, in a unit, and
+/// what the library does in all, in another.
+fn shares_heading(title: &str, unit: &str, in_all: &str) {
+    let names = &LISTERS[..2];
+    println!(
+        "\n{title:<32} {:>6} {:>6} {:>6} {:>5}{} {:>8}",
+        "points",
+        "cables",
+        "silent",
+        "calls",
+        headings(names, WIDTH),
+        "library"
+    );
+    let units = units(names, unit, WIDTH);
+    println!("{:<46} {:>6} {:>5}{units} {in_all:>8}", "", "%", "");
+}
+
 /// The figures of one line, in a unit of so many nanoseconds.
 fn figures(times: &[Duration], unit: usize, width: usize) -> String {
     let digits = usize::from(unit > 1);
@@ -860,19 +877,7 @@ fn logs() -> [(&'static str, Record, Vec<u8>); 5] {
 /// of ordinary Rust, and how many million events the library plays back in a second. Gives the logs
 /// on which the library takes too many times what ordinary Rust takes, and the ratio.
 fn replays() -> Vec<(&'static str, f64)> {
-    let names = &LISTERS[..2];
-    println!(
-        "\n{:<32} {:>6} {:>6} {:>6} {:>5}{} {:>8}",
-        "logs of ten million events",
-        "points",
-        "cables",
-        "silent",
-        "calls",
-        headings(names, WIDTH),
-        "library"
-    );
-    let units = units(names, "ns/event", WIDTH);
-    println!("{:<46} {:>6} {:>5}{units} {:>8}", "", "%", "", "M/s");
+    shares_heading("logs of ten million events", "ns/event", "M/s");
 
     let mut slow = Vec::new();
     let (mut silent, mut plain) = (vec![0; EVENTS], vec![0; EVENTS]);
@@ -1014,19 +1019,7 @@ const SETTINGS: [(u8, u8); 4] = [(8, 64), (1, 255), (128, 128), (0, 0)];
 /// Rust, and the library's time for all steps. Gives the drills on which the library takes too many times
 /// what ordinary Rust takes, and the ratio.
 fn drills() -> Vec<(String, f64)> {
-    let names = &LISTERS[..2];
-    println!(
-        "\n{:<32} {:>6} {:>6} {:>6} {:>5}{} {:>8}",
-        "drills of the most steps",
-        "points",
-        "cables",
-        "silent",
-        "calls",
-        headings(names, WIDTH),
-        "library"
-    );
-    let units = units(names, "ns/step", WIDTH);
-    println!("{:<46} {:>6} {:>5}{units} {:>8}", "", "%", "", "ms/call");
+    shares_heading("drills of the most steps", "ns/step", "ms/call");
 
     let mut slow = Vec::new();
     for (hall_name, hall) in [

@@ -154,6 +154,36 @@ pub fn string_of_fours(groups: u8) -> Record {
     hall(4 * groups, 4 * groups - 1, &ends)
 }
 
+/// Halls of every kind, with a route and without, of few cables and of all, of two points and of all.
+pub fn named() -> Vec<Record> {
+    vec![
+        bridge(),
+        bridge_with_loops(),
+        bar_cable(),
+        spur(),
+        hanging_triangle(),
+        line_of_three(),
+        line_of_three_exchanged(),
+        two_points(0),
+        two_points(1),
+        two_points(2),
+        two_points(16),
+        two_points(17),
+        two_points(64),
+        loops_alone(3),
+        complete(11),
+        fan(30),
+        two_hubs(11),
+        grid(2, 22),
+        grid(4, 8),
+        circle(64, &[1]),
+        line(32, 2),
+        line(64, 1),
+        string_of_fours(8),
+        spread(&bridge()),
+    ]
+}
+
 /// The same hall with its points spread over all numbers that points can have, in their order; the
 /// points between them hang on nothing.
 pub fn spread(hall: &Record) -> Record {

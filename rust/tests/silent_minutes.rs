@@ -335,28 +335,7 @@ fn larger_random_plans() {
 #[test]
 fn halls_with_a_name() {
     let mut rng = Rng::new(405);
-    for hall in [
-        halls::bridge(),
-        halls::bridge_with_loops(),
-        halls::bar_cable(),
-        halls::spur(),
-        halls::hanging_triangle(),
-        halls::line_of_three(),
-        halls::two_points(0),
-        halls::two_points(1),
-        halls::two_points(16),
-        halls::two_points(17),
-        halls::two_points(64),
-        halls::complete(11),
-        halls::fan(30),
-        halls::two_hubs(11),
-        halls::grid(4, 8),
-        halls::circle(64, &[1]),
-        halls::line(32, 2),
-        halls::line(64, 1),
-        halls::string_of_fours(8),
-        halls::spread(&halls::bridge()),
-    ] {
+    for hall in halls::named() {
         let mut tally = Tally::default();
         for round in 0..600 {
             let mut week = weeks::fit(&mut rng, &hall);

@@ -65,33 +65,6 @@ fn draws(record: &Record, drill: &Drill) -> u64 {
     drill.steps * u64::from(record.present.count_ones())
 }
 
-/// The halls with a name.
-fn named() -> Vec<Record> {
-    vec![
-        halls::bridge(),
-        halls::bridge_with_loops(),
-        halls::bar_cable(),
-        halls::spur(),
-        halls::hanging_triangle(),
-        halls::line_of_three(),
-        halls::line_of_three_exchanged(),
-        halls::two_points(0),
-        halls::two_points(1),
-        halls::two_points(2),
-        halls::two_points(64),
-        halls::loops_alone(3),
-        halls::complete(11),
-        halls::fan(30),
-        halls::two_hubs(11),
-        halls::grid(2, 22),
-        halls::circle(64, &[1]),
-        halls::line(32, 2),
-        halls::line(64, 1),
-        halls::string_of_fours(8),
-        halls::spread(&halls::bridge()),
-    ]
-}
-
 /// Drills without a step, with none silent, with some and with all were met, rooms that came back, settings
 /// of 0 and gaps in the cable numbers.
 fn assert_met(counts: &Counts, least: u64) {
@@ -361,7 +334,7 @@ fn larger_random_plans() {
 #[test]
 fn halls_with_a_name() {
     let mut rng = Rng::new(507);
-    for hall in named() {
+    for hall in halls::named() {
         let mut tally = Tally::default();
         for round in 0..300 {
             let mut drill = drills::fit(&mut rng);
@@ -713,7 +686,7 @@ fn cables_of_no_use_take_draws() {
 fn drills_of_the_most_steps() {
     let mut rng = Rng::new(517);
     let mut counts = Counts::default();
-    for hall in named() {
+    for hall in halls::named() {
         let is_silent = |down| sides::is_cut(&hall, down);
         for (failure, repair) in [(8, 64), (1, 255)] {
             let drill = Drill {
@@ -726,7 +699,7 @@ fn drills_of_the_most_steps() {
             counts.drilled(&hall, &drill, number, &silent);
         }
     }
-    assert_eq!(counts.simulate.of(0), 2 * named().len() as u64);
+    assert_eq!(counts.simulate.of(0), 2 * halls::named().len() as u64);
     assert_eq!(counts.most_steps, 65_535);
     // Of each kind, as the halls without a route and the one with 64 cables side by side are among them.
     let (heard, silent) = (counts.heard_drills, counts.silent_drills);
@@ -743,7 +716,7 @@ fn drills_of_the_most_steps() {
 fn too_many_steps() {
     let mut rng = Rng::new(518);
     let refused = (25, Simulated::default());
-    for hall in named() {
+    for hall in halls::named() {
         for steps in TOO_MANY {
             for failure in SETTINGS {
                 let drill = Drill {
