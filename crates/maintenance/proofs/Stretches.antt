@@ -3,14 +3,14 @@
 --
 --   Turn N o w minutes m out severs     before the minute m: the silent minutes counted so far, and what is known
 use mathlib.Core.Bool.{Bool, true, false, cond, _&&_}
-use mathlib.Core.List.{List, _++_, List·Memᴰ, List·Memᴰ·head, List·Memᴰ·tail, Memᴰ·append-left, Memᴰ·append-right}
+use mathlib.Core.List.{List, _++_, List·Memᴰ·head, List·Memᴰ·tail, Memᴰ·append-left, Memᴰ·append-right}
 use mathlib.Core.Path.{_≡_, refl, sym, ap, ap₂, _∙_}
 use Prim.Native.Nat.{ℕ, _+_, _-_, _≤_, _<_, zero-le}
 use native.Mathlib.Omega.{arith}
 use Rattle.sequences.specs.Words.{range}
 use Rattle.sequences.specs.Counts.{countIf}
-use Rattle.sequences.proofs.Counts.{count-nil, count-le}
-use Rattle.sequences.proofs.Ranges.{length-range, count-on}
+use Rattle.sequences.proofs.Counts.{count-nil}
+use Rattle.sequences.proofs.Ranges.{count-on, count-below}
 use Rattle.network.specs.declared.Network.{Network}
 use Rattle.graph.specs.CutTests.{severed}
 use Rattle.windows.specs.Windows.{week, isOpen, outAt}
@@ -48,9 +48,7 @@ module _ (N : Network) (o w : List ℕ) where
   module _ {minutes m out : ℕ} {severs : Bool} (t : Turn N o w minutes m out severs) where
     -- No more minutes are counted than there were.
     pub counted-le : minutes ≤ m
-    counted-le =
-        let all = count-le silent (range 0 m) in
-        omega (arith, t .counted, all, length-range 0 m)
+    counted-le = omega (arith, t .counted, count-below silent m)
 
     module _ (h : m < week) {n : ℕ} (e : n ≡ soonest m week (o ++ timesOf w)) where
       pub next-change : Next m (changesOf o w) n

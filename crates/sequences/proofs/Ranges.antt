@@ -14,7 +14,7 @@ use lib.ListN.{length}
 use Rattle.sequences.specs.Rising.{Rising}
 use Rattle.sequences.specs.Words.{range, passing}
 use Rattle.sequences.specs.Counts.{countIf, Exactly}
-use Rattle.sequences.proofs.Counts.{count-nil, count-cons, count-append}
+use Rattle.sequences.proofs.Counts.{count-nil, count-cons, count-append, count-le}
 use Rattle.sequences.proofs.Words.{mem-passing, passing-rising}
 
 -- There are n of them,
@@ -90,6 +90,17 @@ module _ (p : ℕ → Bool) where
       ∙ count-append p (range 0 k) (range (0 + k) (n - k))
       ∙ ap (λ c. countIf p (range 0 k) + c) (ap (λ j. countIf p (range j (n - k))) start ∙ later)
 
+  -- To the next number it grows by one if that passes.
+  pub count-next : (b : Bool) (n : ℕ) → p n ≡ b → countIf p (range 0 (suc n)) ≡ countIf p (range 0 n) + cond b 1 0
+  count-next b n e =
+      let here : (j : ℕ) → n ≤ j → j < suc n → p j ≡ b = λ j h l. let at : j ≡ n = omega arith in ap p at ∙ e in
+      let one : suc n - n ≡ 1 = omega arith in
+      count-on b n (suc n) (omega arith) here ∙ ap (λ m. countIf p (range 0 n) + cond b m 0) one
+
+  -- No more pass than there are.
+  pub count-below : (n : ℕ) → countIf p (range 0 n) ≤ n
+  count-below n = omega (arith, count-le p (range 0 n), length-range 0 n)
+
   -- What the test tells holds of exactly as many numbers as are counted.
   pub exactly-counted : (w : ℕ) (P : ℕ → Type 0) → ((m : ℕ) → T (p m) ↔ P m) → Exactly w P (countIf p (range 0 w))
   exactly-counted w P right = record {
@@ -112,16 +123,13 @@ module _ (p : ℕ → Bool) where
 
     pub count-last : (n i : ℕ) → i < n → T (p i) ↔ (n < suc i + countIf p (range 0 n))
     count-last zero i h = absurd (not-suc-le-zero h)
-    count-last (suc n) i h = go (p n) refl (count-on (p n) n (suc n) (omega arith) here) (count-last n i)
+    count-last (suc n) i h = go (p n) refl (count-next (p n) n refl) (count-last n i)
       where
         failed : (b : Bool) → (T b → ⊥) → b ≡ false
         failed true f = absurd (f tt)
         failed false f = refl
 
-        here : (j : ℕ) → n ≤ j → j < suc n → p j ≡ p n
-        here j h l = let at : j ≡ n = omega arith in ap p at
-
-        go : (b : Bool) → p n ≡ b → countIf p (range 0 (suc n)) ≡ countIf p (range 0 n) + cond b (suc n - n) 0
+        go : (b : Bool) → p n ≡ b → countIf p (range 0 (suc n)) ≡ countIf p (range 0 n) + cond b 1 0
             → (i < n → T (p i) ↔ (n < suc i + countIf p (range 0 n)))
             → T (p i) ↔ (suc n < suc i + countIf p (range 0 (suc n)))
         go true e more earlier = elim (ℕ-discrete i n) [

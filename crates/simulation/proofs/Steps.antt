@@ -9,7 +9,7 @@
 use mathlib.Core.Bool.{Bool, true, false, cond}
 use mathlib.Core.Path.{_≡_, refl, sym, ap, ap₂, _∙_}
 use mathlib.Core.Logic.{_⊎_, inl, inr, _↔_, Iff·rfl, Iff·and, Iff·not, ⊎-map}
-use Prim.Native.Nat.{ℕ, suc, _+_, _-_, _^_, _≤_, _<_, zero-le}
+use Prim.Native.Nat.{ℕ, suc, _+_, _^_, _≤_, _<_, zero-le}
 use native.Mathlib.Numerals.{add-one}
 use native.Mathlib.Decide.{ℕ-discrete, decLt}
 use native.Mathlib.Omega.{arith}
@@ -18,8 +18,8 @@ use denote.Floats.{passes, is-true}
 use lib.Dec.{ltb}
 use Rattle.sequences.specs.Words.{range}
 use Rattle.sequences.specs.Counts.{countIf}
-use Rattle.sequences.proofs.Counts.{count-nil, count-le}
-use Rattle.sequences.proofs.Ranges.{length-range, count-on}
+use Rattle.sequences.proofs.Counts.{count-nil}
+use Rattle.sequences.proofs.Ranges.{count-next, count-below}
 use Rattle.bitset.specs.Members.{has, _∈_, insert, addIf, _∖_, members, Lowest}
 use Rattle.bitset.proofs.MemberList.{members-none, members-first}
 use Rattle.bitset.proofs.Scans.{Less}
@@ -251,9 +251,7 @@ module _ (N : Network) (n f r steps : ℕ) where
   module _ {state : State} {severs : Bool} {silent done : ℕ} (t : Turn N n f r steps state severs silent done) where
     -- No more steps are counted than there were.
     pub counted-le : silent ≤ done
-    counted-le =
-        let all = count-le (silentStep N n f r) (range 0 done) in
-        omega (arith, t .counted, all, length-range 0 done)
+    counted-le = omega (arith, t .counted, count-below (silentStep N n f r) done)
 
     module _ (h : done < steps) {next : State} {severs′ : Bool} (e : next ≡ step f r (members 64 (present N)) state)
         (known : severs′ ≡ severed N (next .down .0)) where
@@ -265,12 +263,9 @@ module _ (N : Network) (n f r steps : ℕ) where
       more : (b : Bool) → severs′ ≡ b → countIf (silentStep N n f r) (range 0 (done + 1)) ≡ silent + cond b 1 0
       more b same =
           let now : severs′ ≡ silentStep N n f r done = known ∙ ap (λ (s : State). severed N (s .down .0)) on in
-          let one : done + 1 - done ≡ 1 = omega arith in
-          let here : (j : ℕ) → done ≤ j → j < done + 1 → silentStep N n f r j ≡ b = λ j h l.
-          let at : j ≡ done = omega arith in
-          ap (silentStep N n f r) at ∙ sym now ∙ same in
-          count-on (silentStep N n f r) b done (done + 1) (omega arith) here
-          ∙ ap₂ (λ c m. c + cond b m 0) (sym (t .counted)) one
+          ap (λ m. countIf (silentStep N n f r) (range 0 m)) (add-one done)
+          ∙ count-next (silentStep N n f r) b done (sym now ∙ same)
+          ∙ ap (λ c. c + cond b 1 0) (sym (t .counted))
 
       after : {silent′ : ℕ} → silent′ ≡ countIf (silentStep N n f r) (range 0 (done + 1)) → Turn N n f r steps next severs′ silent′ (done + 1)
       after counted = record {
