@@ -1,18 +1,35 @@
--- Families of sets and their blockers: shrinking to a least set, and that the blocker of a clutter's blocker is the clutter.
+-- Families of sets and their blockers: what meets disjoint sets, shrinking to a least set, and that the blocker of a clutter's blocker is
+-- the clutter.
 -- Assumes nothing.
 --
 --   Decided F g      the sets of F lie inside g, and it is decided whether a set holds one of them
 use mathlib.Core.Path.{_≡_, refl, sym}
+use mathlib.Core.List.{List, [], _∷_, Pairwise, Pairwise·of-cons, rel-of-pairwise-cons, List·Memᴰ, List·Memᴰ·head, List·Memᴰ·tail}
 use mathlib.Core.Logic.{inl, inr, _↔_, Dec·not-not, Dec·not, Dec·of-iff, Iff·symm, Iff·trans}
-use Prim.Native.Nat.{ℕ, zero, suc, _^_, _<_}
-use native.Mathlib.Nat.{not-suc-le-zero, le-of-suc-le-suc, eq-or-lt-of-le}
+use Prim.Native.Nat.{ℕ, zero, suc, _^_, _≤_, _<_, zero-le}
+use native.Mathlib.Nat.{lt-of-le-of-lt, not-suc-le-zero, le-of-suc-le-suc, eq-or-lt-of-le}
 use native.Mathlib.Decide.{ℕ-discrete}
+use native.Mathlib.Omega.{arith}
 use lib.Bits.{bitAnd}
-use Rattle.bitset.specs.Families.{Holds, Least, Transversal, Blocker, Clutter}
-use Rattle.bitset.specs.Members.{_⊆_, _∖_, _∈_}
+use lib.ListN.{length}
+use Rattle.bitset.specs.Families.{Meets, Disjoint, Holds, Least, Transversal, Blocker, Clutter}
+use Rattle.bitset.specs.Members.{_⊆_, _∖_, _∈_, size}
 use Rattle.bitset.proofs.Members.{lt-pow, has-zero}
-use Rattle.bitset.proofs.Subsets.{⊆-refl, ⊆-trans, ⊆-antisym, zero-⊆}
-use Rattle.bitset.proofs.Sets.{∈-dec, in-and, in-minus, minus-⊆, minus-mono, minus-minus, in-drop, member-lt, empty-or-member}
+use Rattle.bitset.proofs.Subsets.{⊆-refl, ⊆-trans, ⊆-antisym, subset-le, zero-⊆}
+use Rattle.bitset.proofs.Sets.{∈-dec, in-and, in-minus, minus-⊆, minus-mono, minus-minus, in-drop, member-lt, empty-or-member, size-drop}
+
+-- ---- disjoint sets
+
+-- A set that meets each of some disjoint sets has a member for each of them.
+pub disjoint-at-most : (w t : ℕ) → t < 2 ^ w → (l : List ℕ) → Pairwise Disjoint l → ((r : ℕ) → List·Memᴰ r l → Meets r t) → length l ≤ size w t
+disjoint-at-most w t h [] apart met = zero-le
+disjoint-at-most w t h (r ∷ l) apart met =
+    let (k, (a, b)) = met r (List·Memᴰ·head refl) in
+    let others : (s : ℕ) → List·Memᴰ s l → Meets s (t ∖ 2 ^ k) = λ s i.
+    let (j, (c, d)) = met s (List·Memᴰ·tail i) in
+    (j, (c, in-drop t k j .1 (d, λ e. rel-of-pairwise-cons apart ∣ i ∣₁ (k, (a, rw e at c))))) in
+    let rest = disjoint-at-most w (t ∖ 2 ^ k) (lt-of-le-of-lt (subset-le (t ∖ 2 ^ k) t (minus-⊆ t (2 ^ k))) h) l (Pairwise·of-cons apart) others in
+    omega (arith, rest, size-drop w t k (member-lt w t k h b) b)
 
 -- ---- least sets
 

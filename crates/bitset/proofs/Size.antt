@@ -11,7 +11,9 @@ use lib.Arith.{lt-one}
 use lib.Bits.{bitAnd}
 use lib.Count.{ones, trailingZeros, under, ones-step, ones-ones}
 use lib.Dec.{T, eqb, eqb·suc-zero, eqb·suc-suc}
-use Rattle.sequences.specs.Counts.{bit}
+use Rattle.sequences.specs.Counts.{bit, sumBelow}
+use Rattle.sequences.proofs.Counts.{bit-mono}
+use Rattle.sequences.proofs.Sums.{sum-none, sum-suc}
 use Rattle.bitset.specs.Members.{has, _⊆_, insert, size, Lowest}
 use Rattle.bitset.proofs.Members.{has-first, first-digit, has-next, has-insert, has-inserted, has-and}
 use Rattle.bitset.proofs.Subsets.{insert-⊆}
@@ -30,17 +32,16 @@ size-suc w s = go (has s w)
     go true = omega arith
     go false = omega arith
 
+-- So it is the sum of the members' marks.
+pub size-sum : (w s : ℕ) → size w s ≡ sumBelow w (λ k. bit (has s k))
+size-sum zero s = rw (size-none s, sum-none (λ k. bit (has s k)))
+size-sum (suc w) s = rw (size-suc w s, sum-suc w (λ k. bit (has s k)), size-sum w s)
+
 -- Sets with the same members below w have as many there.
 pub size-same : (w s t : ℕ) → ((k : ℕ) → k < w → has s k ≡ has t k) → size w s ≡ size w t
 size-same zero s t same = rw (size-none s, size-none t)
 size-same (suc w) s t same =
     rw (size-suc w s, size-suc w t, same w (le-refl (suc w)), size-same w s t (λ k h. same k (omega arith)))
-
--- A test that implies another counts no more than it.
-bit-mono : (a b : Bool) → (T a → T b) → bit a ≤ bit b
-bit-mono false b f = zero-le
-bit-mono true true f = le-refl 1
-bit-mono true false f = absurd (f tt)
 
 -- A subset has no more members.
 pub size-mono : (w s t : ℕ) → s ⊆ t → size w s ≤ size w t

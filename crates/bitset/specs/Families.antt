@@ -2,6 +2,7 @@
 -- To believe.
 --
 --   Meets s t            the sets s and t have a common member
+--   Disjoint s t         they have none
 --   Holds F h            some set of the family F lies inside h
 --   Least P t            t has P, and no proper subset of it has
 --   Transversal F t      t meets every set of F
@@ -13,6 +14,9 @@ use Rattle.bitset.specs.Members.{_⊆_, _∈_}
 
 abbrev pub Meets : ℕ → ℕ → Type 0
 Meets s t = (k : ℕ) × ((k ∈ s) × (k ∈ t))
+
+abbrev pub Disjoint : ℕ → ℕ → Type 0
+Disjoint s t = Meets s t → ⊥
 
 abbrev pub Holds : (ℕ → Type 0) → ℕ → Type 0
 Holds F h = (r : ℕ) × (F r × (r ⊆ h))

@@ -1,4 +1,4 @@
--- The demands, loops, metres, trunks, logs, works and drills, what earlier plans keep, then the halls.
+-- The demands, loops, metres, trunks, logs, works, drills and separate ways, what earlier plans keep, then the halls.
 pub mod DemandOne
 pub mod DemandTwo
 pub mod DemandThree
@@ -10,6 +10,7 @@ pub mod Trimmed
 pub mod Replay
 pub mod Works
 pub mod Drills
+pub mod SeparateWays
 pub mod Kept
 pub mod Lifted
 pub mod KeptLengths

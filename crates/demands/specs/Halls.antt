@@ -2,8 +2,9 @@
 -- To believe.
 --
 --   JudgedSet            a judged set: its number, whether it is a cut, and whether it is a mincut
---   Hall                 a plan in bytes, its cuts and sides, the sets judged on it, how many cuts have width 0, 1, .., the points that the
---                        server reaches, the relevant nodes and edges, and what the list program prints
+--   Hall                 a plan in bytes, its cuts and sides, the sets judged on it, how many cuts have width 0, 1, .., the fewest cables of
+--                        a cut and as many separate ways, the points that the server reaches, the relevant nodes and edges, and what the
+--                        list program prints
 --
 -- The table; what the paper leaves out is worked out by hand:
 --   bridge               the bridge
@@ -43,6 +44,8 @@ use Rattle.graph.specs.Lists.{CompleteList}
 use Rattle.graph.specs.Reach.{reachOf}
 use Rattle.graph.specs.CutTests.{cutTest, mincutTest}
 use Rattle.graph.specs.Relevant.{relevantNodes, relevantEdges}
+use Rattle.menger.specs.Separate.{Apart, Most, Fewest}
+use Rattle.menger.specs.Tests.{apartTest, fewestTest}
 use Rattle.listing.specs.List.{mincuts, sourceSides}
 use Rattle.text.specs.Ascii.{bytes}
 use Rattle.report.specs.Report.{reportOf}
@@ -58,6 +61,8 @@ pub record Hall : Type 0 where
   pub sides : List ℕ
   pub judged : List JudgedSet
   pub widths : List ℕ
+  pub fewest : ℕ
+  pub ways : List ℕ
   pub reached : ℕ
   pub nodes : ℕ
   pub edges : ℕ
@@ -67,7 +72,7 @@ pub record Hall : Type 0 where
 
 -- The server is point 0 in every hall, and a hall has as many points as its cables need.
 
--- Judged on it: 9 no cut, 7 not minimal, 14 minimal. Widths: two of 2, two of 3.
+-- Judged on it: 9 no cut, 7 not minimal, 14 minimal. Widths: two of 2, two of 3. Separate ways: by cables 0 and 3, and by 1 and 4.
 unfoldable pub bridge : Hall
 bridge = record {
   plan = 0x50 ∷ 4 ∷ 0x53 ∷ 0 ∷ 3 ∷ 0x43 ∷ 0 ∷ 0 ∷ 1 ∷ 0x43 ∷ 1 ∷ 0 ∷ 2 ∷ 0x43 ∷ 2 ∷ 1 ∷ 2 ∷ 0x43 ∷ 3 ∷ 1 ∷ 3 ∷ 0x43 ∷ 4 ∷ 2 ∷ 3 ∷ 0x45 ∷ [];
@@ -79,6 +84,8 @@ bridge = record {
       ∷ record { set = 14; cut = true; mincut = true }
       ∷ [];
   widths = 0 ∷ 0 ∷ 2 ∷ 2 ∷ [];
+  fewest = 2;
+  ways = 9 ∷ 18 ∷ [];
   reached = 15;
   nodes = 15;
   edges = 31;
@@ -93,6 +100,8 @@ barCable = record {
   sides = 1 ∷ 5 ∷ 7 ∷ [];
   judged = [];
   widths = 0 ∷ 1 ∷ 2 ∷ [];
+  fewest = 1;
+  ways = 9 ∷ [];
   reached = 15;
   nodes = 15;
   edges = 15;
@@ -107,6 +116,8 @@ spur = record {
   sides = 1 ∷ 3 ∷ [];
   judged = [];
   widths = 0 ∷ 2 ∷ [];
+  fewest = 1;
+  ways = 3 ∷ [];
   reached = 15;
   nodes = 7;
   edges = 3;
@@ -121,6 +132,8 @@ hangingTriangle = record {
   sides = 1 ∷ 3 ∷ [];
   judged = [];
   widths = 0 ∷ 2 ∷ [];
+  fewest = 1;
+  ways = 3 ∷ [];
   reached = 31;
   nodes = 7;
   edges = 3;
@@ -135,6 +148,8 @@ noCable = record {
   sides = 1 ∷ [];
   judged = [];
   widths = 1 ∷ [];
+  fewest = 0;
+  ways = [];
   reached = 1;
   nodes = 3;
   edges = 0;
@@ -149,6 +164,8 @@ twoCables = record {
   sides = 1 ∷ [];
   judged = [];
   widths = 0 ∷ 1 ∷ [];
+  fewest = 2;
+  ways = 1 ∷ 2 ∷ [];
   reached = 3;
   nodes = 3;
   edges = 3;
@@ -163,6 +180,8 @@ inARow = record {
   sides = 1 ∷ 3 ∷ [];
   judged = [];
   widths = 0 ∷ 2 ∷ [];
+  fewest = 1;
+  ways = 3 ∷ [];
   reached = 7;
   nodes = 7;
   edges = 3;
@@ -176,6 +195,8 @@ exchanged = record {
   sides = 3 ∷ 1 ∷ [];
   judged = [];
   widths = 0 ∷ 2 ∷ [];
+  fewest = 1;
+  ways = 3 ∷ [];
   reached = 7;
   nodes = 7;
   edges = 3;
@@ -210,6 +231,9 @@ hallTests h =
     ∷ same (sourceSides (networkOf h)) (h .sides)
     ∷ every (judgedTest (networkOf h)) (h .judged)
     ∷ same (widthTable (networkOf h) (h .cuts)) (countsOf h)
+    ∷ fewestTest (h .cuts) (h .fewest)
+    ∷ apartTest (networkOf h) (h .ways)
+    ∷ eqb (length (h .ways)) (h .fewest)
     ∷ eqb (reachOf (networkOf h) (2 ^ networkOf h .source)) (h .reached)
     ∷ eqb (relevantNodes (networkOf h)) (h .nodes)
     ∷ eqb (relevantEdges (networkOf h)) (h .edges)
@@ -226,6 +250,9 @@ pub record Established (h : Hall) : Type 0 where
   pub complete : CompleteList (networkOf h) (length (h .cuts)) (h .cuts) (h .sides)
   pub judged : (j : JudgedSet) → List·Memᴰ j (h .judged) → (T (j .cut) ↔ Cut (networkOf h) (j .set)) × (T (j .mincut) ↔ Mincut (networkOf h) (j .set))
   pub widths : widthsOf (networkOf h) (h .cuts) ≡ record { refusal = 0; counts = countsOf h }
+  pub fewest : Fewest (length (h .cuts)) (h .cuts) (h .fewest)
+  pub ways : Apart (networkOf h) (h .ways) × (length (h .ways) ≡ h .fewest)
+  pub most : Most (networkOf h) (h .fewest)
   pub reached : (v : ℕ) → (v ∈ h .reached) ↔ Connected (networkOf h) (networkOf h .source) v
   pub nodes : (v : ℕ) → (v ∈ h .nodes) ↔ RelevantNode (networkOf h) v
   pub edges : (e : ℕ) → (e ∈ h .edges) ↔ RelevantEdge (networkOf h) e

@@ -1,5 +1,5 @@
--- The demands, how each call ends, what holds of loops, of metres, of trunks, of logs, of works and of drills, what earlier plans keep, and
--- the table of the starred halls.
+-- The demands, how each call ends, what holds of loops, of metres, of trunks, of logs, of works, of drills and of separate ways, what
+-- earlier plans keep, and the table of the starred halls.
 pub mod Endings
 pub mod Demands
 pub mod Alike
@@ -10,5 +10,6 @@ pub mod Trimmed
 pub mod Replay
 pub mod Works
 pub mod Drills
+pub mod SeparateWays
 pub mod Kept
 pub mod Halls

@@ -59,7 +59,7 @@ module _ (N : Network) where
   -- ---- no minpath holds another
 
   -- Only the first edge of a simple path touches its first node.
-  first-alone : (s : Hop) (p : List Hop) (u v e y : ℕ) → Leads N u (s ∷ p) v → Simple u (s ∷ p)
+  pub first-alone : (s : Hop) (p : List Hop) (u v e y : ℕ) → Leads N u (s ∷ p) v → Simple u (s ∷ p)
       → Joins N e u y → e ∈ edgesOf p → ⊥
   unfolding Leads Distinct
   first-alone s p u v e y h d j m = d .0 (ends-met N p (s .to) v e u y (h .1) m j)

@@ -5,13 +5,19 @@ use mathlib.Core.Logic.{_⊎_, inl, inr}
 use mathlib.Core.Bool.{Bool, true, false}
 use mathlib.Core.List.{List, [], _∷_, _++_, map, List·Memᴰ, List·Memᴰ·head, List·Memᴰ·tail, List·Memᴰ·not-nil, List·Memᴰ·cases-cons, Memᴰ·cast}
 use Prim.Native.Nat.{ℕ, zero, suc, _+_, _≤_, _<_, zero-le}
-use native.Mathlib.Nat.{not-suc-le-zero, le-of-suc-le-suc}
+use native.Mathlib.Nat.{le-refl, not-suc-le-zero, le-of-suc-le-suc}
 use native.Mathlib.Omega.{arith}
 use borrow.Author.Tests.{eq-eqb, eqb-true}
-use lib.Dec.{eqb}
+use lib.Dec.{T, eqb}
 use lib.ListN.{length, getD, set}
 use lib.Seq.{lt-length-set}
 use Rattle.sequences.specs.Counts.{bit, countIf, Permutation}
+
+-- A test that implies another counts no more than it.
+pub bit-mono : (a b : Bool) → (T a → T b) → bit a ≤ bit b
+bit-mono false b f = zero-le
+bit-mono true true f = le-refl 1
+bit-mono true false f = absurd (f tt)
 
 module _ {A : Type 0} (p : A → Bool) where
   -- Nothing in the empty list passes.

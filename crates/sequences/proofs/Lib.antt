@@ -4,6 +4,7 @@ pub mod First
 pub mod Places
 pub mod Distinct
 pub mod Counts
+pub mod Sums
 pub mod Tally
 pub mod Words
 pub mod Ranges

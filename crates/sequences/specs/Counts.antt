@@ -3,6 +3,7 @@
 -- To believe.
 --
 --   sum l                the sum of the numbers of l
+--   sumBelow n f         f 0 + f 1 + .. + f (n - 1)  [working]
 --   bit b                1 if b holds, else 0  [working]
 --   countIf p l          how many members of l pass the test p
 --   Permutation l m      each test is passed by as many members of l as of m; so each member stands in both equally often  [working]
@@ -12,7 +13,7 @@ use mathlib.Core.Path.{_≡_}
 use mathlib.Core.Bool.{Bool, true, false}
 use mathlib.Core.List.{List, [], _∷_, List·Memᴰ}
 use mathlib.Core.Logic.{_↔_}
-use Prim.Native.Nat.{ℕ, suc, _+_, _<_}
+use Prim.Native.Nat.{ℕ, zero, suc, _+_, _<_}
 use lib.Dec.{eqb}
 use lib.ListN.{length}
 use Rattle.sequences.specs.Rising.{Rising}
@@ -21,6 +22,10 @@ use Rattle.sequences.specs.Words.{tabulate}
 unfoldable pub sum : List ℕ → ℕ
 sum [] = 0
 sum (x ∷ l) = x + sum l
+
+unfoldable pub sumBelow : ℕ → (ℕ → ℕ) → ℕ
+sumBelow zero f = 0
+sumBelow (suc n) f = f n + sumBelow n f
 
 abbrev pub bit : Bool → ℕ
 bit true = 1
