@@ -15,6 +15,7 @@ mod replay;
 mod schedule;
 mod status;
 mod trimmed;
+mod ways;
 mod widths;
 mod works;
 
@@ -43,6 +44,8 @@ enum Asked {
     Trimmed(Vec<OsString>),
     /// How many cuts of these files have which width.
     Widths(Vec<OsString>),
+    /// Separate ways of these files, as many as there can be.
+    Ways(Vec<OsString>),
     /// The metres of these cables of a file, or of all that its plan has.
     Metres(OsString, Option<EdgeSet>),
     /// What a log, the second file, did to the room of a plan, the first.
@@ -87,6 +90,7 @@ fn run() -> io::Result<Status> {
         }
         Ok(Asked::Trimmed(files)) => trimmed::run(&files),
         Ok(Asked::Widths(files)) => widths::run(&files),
+        Ok(Asked::Ways(files)) => ways::run(&files),
         Ok(Asked::Metres(file, edges)) => metres::run(&file, edges),
         Ok(Asked::Replay(plan, log)) => replay::run(&plan, &log),
         Ok(Asked::Works(plan, schedule)) => works::run(&plan, &schedule),
@@ -95,7 +99,9 @@ fn run() -> io::Result<Status> {
 }
 
 /// The words that say what to do.
-const WORDS: [&str; 6] = ["trimmed", "widths", "metres", "replay", "works", "drill"];
+const WORDS: [&str; 7] = [
+    "trimmed", "widths", "ways", "metres", "replay", "works", "drill",
+];
 
 /// What the arguments ask for, or what is wrong with them. A word that says what to do stands first:
 /// anywhere else, and after `--`, it is a file's name.
@@ -144,6 +150,9 @@ fn asked(arguments: impl Iterator<Item = OsString>) -> Result<Asked, String> {
     }
     if word == "widths" {
         return Ok(Asked::Widths(files(words)?));
+    }
+    if word == "ways" {
+        return Ok(Asked::Ways(files(words)?));
     }
     let edges = match others {
         [] => None,

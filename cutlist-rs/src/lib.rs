@@ -35,6 +35,14 @@
 //! let double = plan.clone().with_edge(5, 1, 0)?;
 //! assert_eq!(double.widths(double.mincuts(1000)?.cuts())?[..5], [0, 0, 2, 2, 0]);
 //!
+//! // The narrowest cuts have two cables, and so there are two ways that share no cable, and no more.
+//! // Cables 0 and 1 are a cut that shows it.
+//! assert_eq!(rows.fewest(), 2);
+//! let separate = plan.separate_ways()?;
+//! let lines: Vec<String> = separate.ways().iter().map(|way| way.to_string()).collect();
+//! assert_eq!(lines, ["0 3 | 0 1 3", "1 4 | 0 2 3"]);
+//! assert_eq!(separate.cut(), EdgeSet(0b00011));
+//!
 //! // Cable 3 is measured and cable 4 is not: of the cut of both, 12 metres are known.
 //! let plan = plan.with_length(3, 12)?;
 //! let cut = EdgeSet(0b11000);
@@ -75,6 +83,7 @@ mod sets;
 mod simulation;
 #[allow(unsafe_code)]
 mod sys;
+mod ways;
 
 pub use list::{ListError, Mincut, Mincuts};
 pub use plan::{EdgeError, EdgeFault, Plan, Relevant, Verdict, WEEK};
@@ -82,6 +91,7 @@ pub use refusal::Refusal;
 pub use replay::{DOWN, UP};
 pub use sets::{EdgeSet, Members, NodeSet};
 pub use simulation::{Simulated, Simulation, MOST_STEPS};
+pub use ways::{SeparateWays, Unshown, Way};
 
 /// The example of the README, compiled.
 #[cfg(doctest)]

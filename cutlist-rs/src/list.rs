@@ -69,6 +69,14 @@ impl Mincuts {
         &self.cuts
     }
 
+    /// The fewest cables in any of the cuts, counted singly, also where they join the same points. It
+    /// is the largest number of routes of which no two share a cable; without a route it is 0.
+    /// [`Plan::separate_ways`](crate::Plan::separate_ways) gives such routes.
+    pub fn fewest(&self) -> usize {
+        let sizes = self.cuts.iter().map(|cut| cut.len());
+        sizes.min().expect("a list has a row")
+    }
+
     /// The near sides, in the order of the cuts.
     pub fn sides(&self) -> &[NodeSet] {
         &self.sides

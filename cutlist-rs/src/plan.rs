@@ -9,6 +9,7 @@ use crate::replay;
 use crate::sets::{EdgeSet, NodeSet};
 use crate::simulation::{Simulated, Simulation};
 use crate::sys::{self, Record};
+use crate::ways::{SeparateWays, Unshown};
 
 /// Bytes in the longest plan.
 pub(crate) const LONGEST: usize = 518;
@@ -278,6 +279,17 @@ impl Plan {
         answer(number, count)
     }
 
+    /// Ways from server to room of which no two share a cable, as many as there can be, and one of the
+    /// minimal cuts with the fewest cables, which has as many. However many minimal cuts there are,
+    /// this takes little time; without a route there is no way, and the cut is empty.
+    ///
+    /// The ways are found by a search of this crate's own. They are given only if they are shown to be
+    /// right: each is followed, and the library's verdict on the cut is asked. An error says that the
+    /// crate is at fault, or its library.
+    pub fn separate_ways(&self) -> Result<SeparateWays, Unshown> {
+        SeparateWays::of(self)
+    }
+
     /// The useful part.
     pub fn relevant(&self) -> Result<Relevant, Refusal> {
         let (number, (nodes, edges)) = sys::relevant(&self.0);
@@ -372,7 +384,7 @@ impl Plan {
 }
 
 #[cfg(test)]
-mod tests {
+pub(crate) mod tests {
     use std::time::{Duration, Instant};
 
     use super::*;
@@ -384,14 +396,14 @@ mod tests {
     ];
 
     /// A hall with server 0 whose cables 0, 1, 2 .. join these points in turn.
-    fn hall(nodes: u8, sink: u8, ends: &[(u8, u8)]) -> Plan {
+    pub(crate) fn hall(nodes: u8, sink: u8, ends: &[(u8, u8)]) -> Plan {
         let bare = Plan::new(nodes, 0, sink).expect("accepted");
         (0..).zip(ends).fold(bare, |plan, (number, &(one, other))| {
             plan.with_edge(number, one, other).expect("accepted")
         })
     }
 
-    fn bridge() -> Plan {
+    pub(crate) fn bridge() -> Plan {
         hall(4, 3, &[(0, 1), (0, 2), (1, 2), (1, 3), (2, 3)])
     }
 
@@ -408,7 +420,7 @@ mod tests {
     }
 
     /// Server and room each joined to every one of the points between them: 2^middle minimal cuts.
-    fn two_hubs(middle: u8) -> Plan {
+    pub(crate) fn two_hubs(middle: u8) -> Plan {
         let ends: Vec<(u8, u8)> = (1..=middle)
             .flat_map(|node| [(0, node), (node, middle + 1)])
             .collect();

@@ -25,6 +25,25 @@ fn bytes_of(text: &str) -> Vec<u8> {
         .collect()
 }
 
+/// The ends of a cable, as they stand in the bytes of a plan.
+fn ends_of(plan: &[u8], cable: &str) -> (u8, u8) {
+    let number: u8 = cable.parse().expect("a number");
+    let mut commands = plan[5..].chunks_exact(4);
+    let command = commands.find(|command| command[..2] == [0x43, number]);
+    let ends = &command.expect("the cable")[2..];
+    (ends[0], ends[1])
+}
+
+/// The cables of each row of a list, as it is printed.
+fn cuts_of(list: &str) -> Vec<Vec<&str>> {
+    let rows = list.lines().skip(1);
+    rows.map(|row| {
+        let (cut, _) = row.split_once(" | ").expect("a bar");
+        cut.split(' ').filter(|&cable| cable != "-").collect()
+    })
+    .collect()
+}
+
 #[test]
 fn every_hall_is_printed_as_the_list_program_prints_it() {
     let folder = Folder::new();
@@ -102,20 +121,15 @@ fn every_hall_is_counted_by_width() {
             assert_eq!(ended.err, listed.err);
             continue;
         }
-        let pair_of = |cable: &str| {
-            let number: u8 = cable.parse().expect("a number");
-            let mut commands = plan[5..].chunks_exact(4);
-            let command = commands.find(|command| command[..2] == [0x43, number]);
-            let ends = &command.expect("the cable")[2..];
-            (ends[0].min(ends[1]), ends[0].max(ends[1]))
+        let pair_of = |cable: &&str| {
+            let (one, other) = ends_of(&plan, cable);
+            (one.min(other), one.max(other))
         };
-        let (cuts, rows) = listed.out.split_once('\n').expect("a line");
+        let (cuts, _) = listed.out.split_once('\n').expect("a line");
         let mut counts: BTreeMap<usize, u32> = BTreeMap::new();
-        for row in rows.lines() {
-            let (cut, _) = row.split_once(" | ").expect("a bar");
-            let cables = cut.split(' ').filter(|&cable| cable != "-");
-            let pairs: BTreeSet<(u8, u8)> = cables.clone().map(pair_of).collect();
-            narrow += u32::from(pairs.len() < cables.count());
+        for cables in cuts_of(&listed.out) {
+            let pairs: BTreeSet<(u8, u8)> = cables.iter().map(pair_of).collect();
+            narrow += u32::from(pairs.len() < cables.len());
             *counts.entry(pairs.len()).or_default() += 1;
         }
         let lines = counts.iter();
@@ -125,6 +139,56 @@ fn every_hall_is_counted_by_width() {
         ended.listed(&format!("{cuts}\n{lines}"));
     }
     assert!(narrow >= 1, "{narrow}");
+}
+
+/// The separate ways of each hall, followed along its cables as they stand in the text: no two take the
+/// same, and there are as many as the narrowest rows of its list have cables, of which one is printed.
+#[test]
+fn every_hall_has_as_many_ways_as_its_narrowest_cut_has_cables() {
+    let mut numbers = BTreeSet::new();
+    for hall in halls() {
+        let plan = bytes_of(&fs::read_to_string(&hall).expect("text"));
+        let ended = run(Command::new(script()).arg("ways").arg(&hall));
+        let listed = cutlist(&[&hall]);
+        if listed.status == Some(1) {
+            assert_eq!((ended.status, ended.out), (listed.status, listed.out));
+            assert_eq!(ended.err, listed.err);
+            continue;
+        }
+        let cuts = cuts_of(&listed.out);
+        let fewest = cuts.iter().map(Vec::len).min().expect("a row");
+        let lines: Vec<&str> = ended.out.lines().collect();
+        assert_eq!(lines.len(), fewest + 3, "{ended:?}");
+        assert_eq!(lines[0], format!("ways {fewest}"));
+        let mut taken = BTreeSet::new();
+        for way in &lines[1..=fewest] {
+            let (cables, points) = way.split_once(" | ").expect("a bar");
+            let points = points
+                .split(' ')
+                .map(|point| point.parse().expect("a point"));
+            let points: Vec<u8> = points.collect();
+            let cables: Vec<&str> = cables.split(' ').collect();
+            assert_eq!(points.len(), cables.len() + 1, "{way}");
+            assert_eq!(
+                (points[0], points[cables.len()]),
+                (plan[3], plan[4]),
+                "{way}"
+            );
+            assert_eq!(BTreeSet::from_iter(&points).len(), points.len(), "{way}");
+            for (cable, step) in cables.iter().zip(points.windows(2)) {
+                let (one, other) = ends_of(&plan, cable);
+                let joined = [(one, other), (other, one)];
+                assert!(joined.contains(&(step[0], step[1])), "{cable} of {way}");
+                assert!(taken.insert(cable.to_string()), "{cable} of {way}");
+            }
+        }
+        assert_eq!(lines[fewest + 1], format!("fewest {fewest}"));
+        let cut = lines[fewest + 2].split(' ').filter(|&cable| cable != "-");
+        let cut: Vec<&str> = cut.collect();
+        assert!(cut.len() == fewest && cuts.contains(&cut), "{ended:?}");
+        numbers.insert(fewest);
+    }
+    assert!(numbers.is_superset(&[0, 1, 2, 10].into()), "{numbers:?}");
 }
 
 /// Before any event the room of a hall is heard, unless its list is the one empty cut.

@@ -12,6 +12,7 @@ mod streams;
 mod text;
 mod trimmed;
 mod usage;
+mod ways;
 mod widths;
 mod words;
 mod works;

@@ -23,6 +23,8 @@ fn help_is_printed_wherever_it_is_asked_for() {
         &["trimmed", "missing", "-", "-", "--help"],
         &["widths", "-h"],
         &["widths", "missing", "-", "-", "--help"],
+        &["ways", "-h"],
+        &["ways", "missing", "-", "-", "--help"],
         &["replay", "-h"],
         &["replay", "missing", "-", "-", "--help"],
         &["works", "-h"],
@@ -43,6 +45,7 @@ fn an_unknown_option_is_a_wrong_use() {
         words(&["metres", "missing", option]).failed(2, &["unknown option ", option]);
         words(&["trimmed", "missing", option]).failed(2, &["unknown option ", option]);
         words(&["widths", "missing", option]).failed(2, &["unknown option ", option]);
+        words(&["ways", "missing", option]).failed(2, &["unknown option ", option]);
         words(&["replay", "missing", option]).failed(2, &["unknown option ", option]);
         words(&["works", "missing", option]).failed(2, &["unknown option ", option]);
         words(&["drill", "missing", option]).failed(2, &["unknown option ", option]);
@@ -53,7 +56,7 @@ fn an_unknown_option_is_a_wrong_use() {
 #[test]
 fn an_option_of_another_word_is_unknown() {
     for option in ["--start", "--fail", "--repair", "--steps"] {
-        for word in ["trimmed", "widths", "metres", "replay", "works"] {
+        for word in ["trimmed", "widths", "ways", "metres", "replay", "works"] {
             for asked in [
                 &[word, "missing", option, "1"][..],
                 &[word, option],

@@ -30,6 +30,9 @@ pub const PLAYED: &str = "events 4\n\
 /// The widths of the bridge's cuts.
 pub const WIDTHS: &str = "cuts 4\nwidth 2 | 2\nwidth 3 | 2\n";
 
+/// The separate ways of the bridge.
+pub const WAYS: &str = "ways 2\n0 3 | 0 1 3\n1 4 | 0 2 3\nfewest 2\n0 1\n";
+
 /// When the bridge is silent on its one evening.
 pub const EVENING: &str = "minutes 50\n\
     Thu 19:40 to Thu 20:00 | 20 minutes, out 0 1\n\
@@ -44,9 +47,10 @@ pub const DRILLED: &str = "steps 1000\n\
 
 /// Each word with the options that it needs, the second file that it takes, if it takes one, and what
 /// it answers for that plan.
-const WORDS: [(&str, Option<&str>, &str); 6] = [
+const WORDS: [(&str, Option<&str>, &str); 7] = [
     ("trimmed", None, BRIDGE_LIST),
     ("widths", None, WIDTHS),
+    ("ways", None, WAYS),
     ("metres", None, ALL),
     ("replay", Some("logs/bridge.hex"), PLAYED),
     ("works", Some("schedules/one-evening.txt"), EVENING),
@@ -206,6 +210,7 @@ fn a_file_may_have_any_name() {
     let names = [
         "trimmed",
         "widths",
+        "ways",
         "metres",
         "replay",
         "works",

@@ -10,7 +10,7 @@ use borrow.Author.Tests.{ne-eqb}
 use lib.Arith.{lt-one}
 use lib.Bits.{bitAnd}
 use lib.Count.{ones, trailingZeros, under, ones-step, ones-ones}
-use lib.Dec.{T, eqb, eqb·suc-zero, eqb·suc-suc}
+use lib.Dec.{eqb, eqb·suc-zero, eqb·suc-suc}
 use Rattle.sequences.specs.Counts.{bit, sumBelow}
 use Rattle.sequences.proofs.Counts.{bit-mono}
 use Rattle.sequences.proofs.Sums.{sum-none, sum-suc}

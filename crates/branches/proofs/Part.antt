@@ -16,7 +16,7 @@ use Rattle.network.specs.Record.{firstEnd, secondEnd, present}
 use Rattle.graph.specs.Paths.{Joins}
 use Rattle.graph.specs.Cuts.{only}
 use Rattle.graph.specs.Reach.{round, reachOf, Bounded}
-use Rattle.graph.specs.Relevant.{chosen, edgesAt, edgesWithin, reachIn, relevantNodes, relevantEdges, boundaryOf}
+use Rattle.graph.specs.Relevant.{chosen, edgesAt, edgesWithin, reachIn, relevantNodes, relevantEdges, crossingOf, boundaryOf}
 use Rattle.graph.proofs.Walks.{joins-sym, joins-other, joins-ends}
 use Rattle.graph.proofs.Reach.{in-round, round-mono, bounded-only}
 use Rattle.graph.proofs.EdgeSets.{in-chosen, joins-stored, in-edgesWithin}
@@ -140,7 +140,7 @@ module _ (N : Network) (S : Sound N) where
 
   -- With v the edges at v change: those that crossed do so no more, and the others now do.
   pub boundary-insert : (s v : ℕ) → (v ∈ s → ⊥) → boundaryOf N (insert s v) ≡ bitXor (boundaryOf N s) (edgesAt (relevantNetwork N) v)
-  unfolding boundaryOf edgesAt only
+  unfolding boundaryOf crossingOf edgesAt only
   boundary-insert s v out = same-members (boundaryOf N (insert s v)) (bitXor (boundaryOf N s) (edgesAt (relevantNetwork N) v)) (λ k.
       let r : Bool = has (relevantEdges N) k in
       let a : ℕ = firstEnd N k in

@@ -8,11 +8,11 @@ use Rattle.bitset.specs.Members.{size}
 use Rattle.network.specs.declared.Network.{Network}
 use Rattle.network.specs.Record.{Stored, faultOf}
 use Rattle.format.specs.Format.{decodeOf}
-use Rattle.graph.specs.Cuts.{Cut}
+use Rattle.graph.specs.Cuts.{Cut, Mincut}
 use Rattle.graph.specs.Lists.{CompleteList}
 use Rattle.graph.proofs.Sound.{Sound, accepted-sound}
 use Rattle.menger.specs.Separate.{Apart, Most}
-use Rattle.menger.proofs.Menger.{apart-cut, apart-most, menger, fewest-most, most-none}
+use Rattle.menger.proofs.Menger.{apart-cut, apart-most, fewest-mincut, menger, fewest-most, most-none}
 use Rattle.listing.specs.List.{listedBy, cutRowsAfter}
 use Rattle.listing.specs.Trimmed.{trimmedListedBy, trimmedCutRows}
 use Rattle.listing.proofs.Call.{complete-call}
@@ -44,10 +44,11 @@ trimmed N stored cuts sides none =
     rw (same .count, same .cut-rows) (lists N stored cuts sides (sym (same .refusal) ∙ none))
 
 shown : (N : Network) → Stored N → faultOf N ≡ 0 → (l : List ℕ) → Apart N l → (c : ℕ) → Cut N c → length l ≡ size 64 c
-    → Most N (length l) × ((d : ℕ) → Cut N d → size 64 c ≤ size 64 d)
+    → Most N (length l) × Mincut N c × ((d : ℕ) → Cut N d → size 64 c ≤ size 64 d)
 shown N stored ok l apart c cut same =
     let B = accepted-sound N stored ok .bounded in
-    (apart-most N B l apart c cut same, λ d other. rw (← same) (apart-cut N B l apart d other))
+    let fewest : (d : ℕ) → Cut N d → size 64 c ≤ size 64 d = λ d other. rw (← same) (apart-cut N B l apart d other) in
+    (apart-most N B l apart c cut same, fewest-mincut N B c cut fewest, fewest)
 
 pub separate-ways : SeparateWays
 separate-ways = record {

@@ -14,7 +14,7 @@ use Rattle.network.specs.declared.Network.{Network}
 use Rattle.network.specs.Record.{Stored, faultOf}
 use Rattle.format.specs.Format.{decodeOf}
 use Rattle.graph.specs.Paths.{Minpath}
-use Rattle.graph.specs.Cuts.{Cut}
+use Rattle.graph.specs.Cuts.{Cut, Mincut}
 use Rattle.menger.specs.Separate.{Apart, Most, Fewest}
 use Rattle.listing.specs.List.{listedBy, cutRowsAfter}
 use Rattle.listing.specs.Trimmed.{trimmedListedBy, trimmedCutRows}
@@ -36,6 +36,7 @@ pub record SeparateWays : Type 0 where
   -- And of a plan that was trimmed already, by the call that lists it as such.
   pub trimmed : (N : Network) → Stored N → (cuts sides : List ℕ) → trimmedListedBy N cuts sides .refusal ≡ 0
       → Matched N (trimmedListedBy N cuts sides .count) (trimmedCutRows N cuts sides)
-  -- However long the list is: separate ways, and a cut with as many cables, show that no more ways are apart and that no cut has fewer.
+  -- However long the list is: separate ways and a cut with as many cables show that no more ways are apart, that no cut has fewer cables,
+  -- and so that this one is a row of the list.
   pub shown : (N : Network) → Stored N → faultOf N ≡ 0 → (l : List ℕ) → Apart N l → (c : ℕ) → Cut N c → length l ≡ size 64 c
-      → Most N (length l) × ((d : ℕ) → Cut N d → size 64 c ≤ size 64 d)
+      → Most N (length l) × Mincut N c × ((d : ℕ) → Cut N d → size 64 c ≤ size 64 d)

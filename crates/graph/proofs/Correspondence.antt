@@ -1,18 +1,14 @@
 -- The mincuts and the source sides correspond one to one, as they are computed.
 -- Assumes a sound network.
 use mathlib.Core.Path.{_≡_, refl, sym, ap, _∙_}
-use mathlib.Core.Bool.{xor, _&&_}
 use mathlib.Core.Logic.{inl, inr, _↔_, Iff·trans, Iff·symm, Iff·and, Iff·rfl}
 use Prim.Native.Nat.{ℕ, _^_}
-use lib.Dec.{T}
-use Rattle.bitset.specs.Members.{has, _⊆_, _∖_, _∈_}
-use Rattle.sequences.proofs.Tests.{T-and, T-xor}
+use Rattle.bitset.specs.Members.{_⊆_, _∖_, _∈_}
 use Rattle.bitset.proofs.Sets.{in-minus, in-single, same-set}
 use Rattle.network.specs.declared.Network.{Network}
-use Rattle.network.specs.Record.{firstEnd, secondEnd, present}
-use Rattle.graph.specs.Paths.{Joins, Minpath}
+use Rattle.graph.specs.Paths.{Minpath}
 use Rattle.graph.specs.Cuts.{Mincut, RelevantEdge, RelevantNode, OnSourceSide}
-use Rattle.graph.specs.SourceSides.{Beyond, SourceSide, Crosses, Boundary}
+use Rattle.graph.specs.SourceSides.{Beyond, SourceSide, Boundary}
 use Rattle.graph.specs.Relevant.{relevantNodes, relevantEdges, reachIn, sourceSideOf, boundaryOf}
 use Rattle.graph.proofs.Walks.{joins-sym, end-met}
 use Rattle.graph.proofs.Nodes.{carried}
@@ -20,44 +16,18 @@ use Rattle.graph.proofs.Cuts.{mincut-none}
 use Rattle.graph.proofs.Sound.{Sound}
 use Rattle.graph.proofs.RelevantNodes.{end-relevant}
 use Rattle.graph.proofs.RelevantEdges.{relevant-present}
-use Rattle.graph.proofs.EdgeSets.{in-chosen, edge-lt, in-reach-over}
+use Rattle.graph.proofs.EdgeSets.{in-crossingOf, in-reach-over}
 use Rattle.graph.proofs.Relevant.{in-relevantNodes, in-relevantEdges}
 use Rattle.graph.proofs.Inside.{hangs-same, hangs-reach}
 use Rattle.graph.proofs.SourceSides.{side-mincut, boundary-side, mincut-boundary, mincut-side}
 
 module _ (N : Network) (S : Sound N) where
-  -- A present edge crosses exactly if one of its stored ends is in s.
-  crosses-stored : (s e : ℕ) → e ∈ present N → T (xor (has s (firstEnd N e)) (has s (secondEnd N e))) ↔ Crosses N s e
-  unfolding Joins
-  crosses-stored s e m =
-      let a : ℕ = firstEnd N e in
-      let b : ℕ = secondEnd N e in (
-        λ t. elim (T-xor (has s a) (has s b) .0 t) [
-          | inl k ↦ record { near = a; far = b; joins = (m, inl (refl, refl)); near-in = k .0; far-out = k .1 }
-          | inr k ↦ record { near = b; far = a; joins = (m, inr (refl, refl)); near-in = k .0; far-out = k .1 }
-        ],
-        λ k. T-xor (has s a) (has s b) .1 (elim (k .joins .1) [
-          | inl q ↦ inl (rw (q .0) (k .near-in), rw (q .1) (k .far-out))
-          | inr q ↦ inr (rw (q .1) (k .near-in), rw (q .0) (k .far-out))
-        ]),
-      )
-
   -- The boundary is what is computed.
   pub in-boundaryOf : (s : ℕ) → Boundary N s (boundaryOf N s)
   unfolding boundaryOf
   in-boundaryOf s e =
-      let r : ℕ = relevantEdges N in
-      let present : RelevantEdge N e → e ∈ present N = relevant-present N e in
-      let test = in-chosen (λ k. has r k && xor (has s (firstEnd N k)) (has s (secondEnd N k))) 64 e in
-      let both = T-and (has r e) (xor (has s (firstEnd N e)) (has s (secondEnd N e))) in (
-        λ m.
-            let t = both .0 (test .0 m .1) in
-            let k = in-relevantEdges N S e .0 (t .0) in
-            (k, crosses-stored s e (present k) .0 (t .1)),
-        λ k.
-            let there = present (k .0) in
-            test .1 (edge-lt N (S .bounded) e there, both .1 (in-relevantEdges N S e .1 (k .0), crosses-stored s e there .1 (k .1))),
-      )
+      let relevant = in-relevantEdges N S in
+      Iff·trans (in-crossingOf N (S .bounded) (relevantEdges N) (λ k m. relevant-present N k (relevant k .0 m)) s e) (Iff·and (relevant e) Iff·rfl)
 
   -- The source side is what is computed.
   pub in-sourceSideOf : (c v : ℕ) → (v ∈ sourceSideOf N c) ↔ OnSourceSide N c v

@@ -1,7 +1,8 @@
--- Sets of edges: those chosen by a test, as the edges at a node and those within a set of nodes, and what is reached over a set.
+-- Sets of edges: those chosen by a test, as the edges at a node, those within a set of nodes and those that leave it, and what is reached
+-- over a set.
 -- Assumes that the edges have numbers below 64 and ends below the node count.
 use mathlib.Core.Path.{refl}
-use mathlib.Core.Bool.{Bool, not, _&&_, _||_}
+use mathlib.Core.Bool.{Bool, not, xor, _&&_, _||_}
 use mathlib.Core.List.{List}
 use mathlib.Core.Logic.{inl, inr, _↔_, _≢_, Ne·symm}
 use Prim.Native.Nat.{ℕ, zero, suc, _^_, _<_}
@@ -10,14 +11,15 @@ use native.Mathlib.Omega.{arith}
 use lib.Dec.{T, eqb}
 use Rattle.bitset.specs.Members.{has, _⊆_, _∈_}
 use Rattle.bitset.proofs.Members.{has-zero}
-use Rattle.sequences.proofs.Tests.{T-and, T-or, T-not, T-eqb}
+use Rattle.sequences.proofs.Tests.{T-and, T-or, T-not, T-xor, T-eqb}
 use Rattle.bitset.proofs.Sets.{in-addIf, member-lt}
 use Rattle.network.specs.declared.Network.{Network}
 use Rattle.network.specs.Record.{hasEdge, firstEnd, secondEnd, present}
 use Rattle.graph.specs.Paths.{Joins, Hop, Leads, edgesOf}
 use Rattle.graph.specs.Cuts.{only}
 use Rattle.graph.specs.Reach.{reachOf, Bounded}
-use Rattle.graph.specs.Relevant.{chosen, edgesAt, twoIn, edgesWithin}
+use Rattle.graph.specs.SourceSides.{Crosses}
+use Rattle.graph.specs.Relevant.{chosen, edgesAt, twoIn, edgesWithin, crossingOf}
 use Rattle.graph.proofs.Walks.{leads-within}
 use Rattle.graph.proofs.Reach.{bounded-only, in-reach-single}
 
@@ -51,6 +53,22 @@ in-twoIn u a b =
 pub joins-stored : (N : Network) (e : ℕ) → e ∈ present N → Joins N e (firstEnd N e) (secondEnd N e)
 unfolding Joins
 joins-stored N e m = (m, inl (refl, refl))
+
+-- A present edge crosses exactly if one of its stored ends is in s.
+crosses-stored : (N : Network) (s e : ℕ) → e ∈ present N → T (xor (has s (firstEnd N e)) (has s (secondEnd N e))) ↔ Crosses N s e
+unfolding Joins
+crosses-stored N s e m =
+    let a : ℕ = firstEnd N e in
+    let b : ℕ = secondEnd N e in (
+      λ t. elim (T-xor (has s a) (has s b) .0 t) [
+        | inl k ↦ record { near = a; far = b; joins = (m, inl (refl, refl)); near-in = k .0; far-out = k .1 }
+        | inr k ↦ record { near = b; far = a; joins = (m, inr (refl, refl)); near-in = k .0; far-out = k .1 }
+      ],
+      λ k. T-xor (has s a) (has s b) .1 (elim (k .joins .1) [
+        | inl q ↦ inl (rw (q .0) (k .near-in), rw (q .1) (k .far-out))
+        | inr q ↦ inr (rw (q .1) (k .near-in), rw (q .0) (k .far-out))
+      ]),
+    )
 
 module _ (N : Network) (B : Bounded N) where
   -- A present edge has a number below 64.
@@ -104,6 +122,16 @@ module _ (N : Network) (B : Bounded N) where
               edge-lt e (w .0),
               T-and (hasEdge N e) (twoIn u a b) .1 (w .0, two .1 (there .0, there .1, w .1 b a (w .0, inr (refl, refl)) .1)),
             ),
+      )
+
+  -- The edges of g that cross are those with one end in s and one outside.
+  pub in-crossingOf : (g : ℕ) → g ⊆ present N → (s e : ℕ) → (e ∈ crossingOf N g s) ↔ ((e ∈ g) × Crosses N s e)
+  unfolding crossingOf
+  in-crossingOf g l s e =
+      let test = in-chosen (λ k. has g k && xor (has s (firstEnd N k)) (has s (secondEnd N k))) 64 e in
+      let both = T-and (has g e) (xor (has s (firstEnd N e)) (has s (secondEnd N e))) in (
+        λ m. let t = both .0 (test .0 m .1) in (t .0, crosses-stored N s e (l e (t .0)) .0 (t .1)),
+        λ k. test .1 (edge-lt e (l e (k .0)), both .1 (k .0, crosses-stored N s e (l e (k .0)) .1 (k .1))),
       )
 
   -- What h reaches over the edges of g are the nodes to which a walk from h takes edges of g alone.

@@ -12,6 +12,7 @@
 --   relevantEdges N      the relevant edges: those within the relevant nodes  [computed: in-relevantEdges (graph/proofs/Relevant)]
 --   trimmed N            whether N is trimmed: these are all nodes and all present edges  [computed: trimmed-iff, untrimmed-iff (graph/proofs/Trimmed)]
 --   sourceSideOf N c     the source side of c  [computed: in-sourceSideOf (graph/proofs/Correspondence)]
+--   crossingOf N g s     the edges of g with exactly one end in s  [computed: in-crossingOf (graph/proofs/EdgeSets)]
 --   boundaryOf N s       the relevant edges with exactly one end in s  [computed: in-boundaryOf (graph/proofs/Correspondence)]
 use mathlib.Core.Bool.{Bool, not, xor, _&&_, _||_}
 use Prim.Native.Nat.{ℕ, zero, suc, _-_, _^_}
@@ -61,5 +62,8 @@ trimmed N = eqb (relevantNodes N) (2 ^ N .nodes - 1) && eqb (relevantEdges N) (p
 unfoldable pub sourceSideOf : Network → ℕ → ℕ
 sourceSideOf N c = reachOf (only N (relevantEdges N ∖ c)) (2 ^ N .source)
 
+unfoldable pub crossingOf : Network → ℕ → ℕ → ℕ
+crossingOf N g s = chosen (λ k. has g k && xor (has s (firstEnd N k)) (has s (secondEnd N k))) 64
+
 unfoldable pub boundaryOf : Network → ℕ → ℕ
-boundaryOf N s = let r = relevantEdges N in chosen (λ k. has r k && xor (has s (firstEnd N k)) (has s (secondEnd N k))) 64
+boundaryOf N s = crossingOf N (relevantEdges N) s

@@ -5,9 +5,9 @@
 --   crossing N s         the present edges with exactly one end in s
 --   Full N k             a flow of k units, and a cut of k edges
 use mathlib.Core.Path.{_≡_, refl, sym, ap, _∙_}
-use mathlib.Core.Bool.{Bool, true, false, _&&_, xor}
-use mathlib.Core.Logic.{_⊎_, inl, inr, _↔_, Dec·and}
-use Prim.Native.Nat.{ℕ, zero, suc, _+_, _*_, _≤_, _<_}
+use mathlib.Core.Bool.{Bool, true, false}
+use mathlib.Core.Logic.{_⊎_, inl, inr, _↔_}
+use Prim.Native.Nat.{ℕ, zero, suc, _+_, _*_, _≤_}
 use native.Mathlib.Nat.{suc-mul}
 use native.Mathlib.Decide.{ℕ-discrete}
 use native.Mathlib.Omega.{arith}
@@ -16,27 +16,26 @@ use lib.Dec.{T, eqb}
 use Rattle.sequences.specs.Counts.{bit, sumBelow}
 use Rattle.sequences.proofs.Counts.{bit-mono}
 use Rattle.sequences.proofs.Sums.{sum-same, sum-ones, sum-plus}
-use Rattle.sequences.proofs.Tests.{T-and, T-xor}
 use Rattle.bitset.specs.Members.{has, _∈_, _⊆_, size}
-use Rattle.bitset.proofs.Subsets.{same-test}
+use Rattle.bitset.proofs.Subsets.{⊆-refl, same-test}
 use Rattle.bitset.proofs.Size.{size-sum}
 use Rattle.bitset.proofs.Sets.{∈-dec, in-minus}
 use Rattle.network.specs.declared.Network.{Network}
-use Rattle.network.specs.Record.{present, hasEdge, firstEnd, secondEnd}
-use Rattle.graph.specs.Paths.{Joins, Connected}
+use Rattle.network.specs.Record.{present, firstEnd, secondEnd}
+use Rattle.graph.specs.Paths.{Joins}
 use Rattle.graph.specs.Cuts.{only, without, Cut}
 use Rattle.graph.specs.Reach.{Bounded, Closed}
-use Rattle.graph.specs.Relevant.{chosen}
-use Rattle.graph.proofs.Walks.{joins-sym}
+use Rattle.graph.specs.Relevant.{crossingOf}
+use Rattle.graph.proofs.Walks.{joins-sym, joins-other, joins-ends}
 use Rattle.graph.proofs.Reach.{closed-walk}
 use Rattle.graph.proofs.Cuts.{cut-connected}
 use Rattle.graph.proofs.Sound.{Sound}
-use Rattle.graph.proofs.EdgeSets.{in-chosen, joins-stored, edge-lt}
+use Rattle.graph.proofs.EdgeSets.{joins-stored, in-crossingOf}
 use Rattle.menger.proofs.Ways.{Closure, closure}
-use Rattle.menger.proofs.Flows.{Link, Idle, Joined, leaves, arrives, Flow, Free, Pushed, idle-dec, push}
+use Rattle.menger.proofs.Flows.{Link, Idle, Joined, leaves, arrives, Flow, Free, idle-dec, push}
 
-unfoldable pub crossing : Network → ℕ → ℕ
-crossing N s = chosen (λ k. hasEdge N k && xor (has s (firstEnd N k)) (has s (secondEnd N k))) 64
+abbrev pub crossing : Network → ℕ → ℕ
+crossing N s = crossingOf N (present N) s
 
 pub record Full (N : Network) (k : ℕ) : Type 0 where
   pub flow : ℕ → Link
@@ -50,29 +49,27 @@ pub record Full (N : Network) (k : ℕ) : Type 0 where
 module _ (N : Network) (B : Bounded N) (s : ℕ) where
   -- An edge crosses exactly if one of its ends is in the set and the other is not.
   in-crossing : (e u v : ℕ) → Joins N e u v → (e ∈ crossing N s) ↔ (((u ∈ s) × (v ∈ s → ⊥)) ⊎ ((v ∈ s) × (u ∈ s → ⊥)))
-  unfolding crossing Joins
+  unfolding Joins
   in-crossing e u v j =
-      let a : ℕ = firstEnd N e in
-      let b : ℕ = secondEnd N e in
-      let both = T-and (hasEdge N e) (xor (has s a) (has s b)) in
-      let test = in-chosen (λ k. hasEdge N k && xor (has s (firstEnd N k)) (has s (secondEnd N k))) 64 e in
-      elim (j .1) [
-        | inl q ↦ rw (← q .0, ← q .1) (
-          λ m. T-xor (has s a) (has s b) .0 (both .0 (test .0 m .1) .1),
-          λ c. test .1 (edge-lt N B e (j .0), both .1 (j .0, T-xor (has s a) (has s b) .1 c)),
-        )
-        | inr q ↦ rw (← q .0, ← q .1) (
-          λ m. elim (T-xor (has s a) (has s b) .0 (both .0 (test .0 m .1) .1)) [ inl c ↦ inr c | inr c ↦ inl c ],
-          λ c. test .1 (edge-lt N B e (j .0), both .1 (j .0, T-xor (has s a) (has s b) .1 (elim c [ inl k ↦ inr k | inr k ↦ inl k ]))),
-        )
-      ]
+      let test = in-crossingOf N B (present N) (⊆-refl (present N)) s e in (
+        λ m.
+            let k = test .0 m .1 in
+            elim (joins-ends N e u v (k .near) (k .far) j (k .joins)) [
+              | inl q ↦ inl (rw (← q) (k .near-in), rw (joins-other N e u v (k .far) j (rw q at (k .joins))) (k .far-out))
+              | inr q ↦ inr (rw (← q) (k .near-in), rw (joins-other N e v u (k .far) (joins-sym N e u v j) (rw q at (k .joins))) (k .far-out))
+            ],
+        λ c. test .1 (
+          j .0,
+          elim c [
+            | inl k ↦ record { near = u; far = v; joins = j; near-in = k .0; far-out = k .1 }
+            | inr k ↦ record { near = v; far = u; joins = joins-sym N e u v j; near-in = k .0; far-out = k .1 }
+          ],
+        ),
+      )
 
   -- Only present edges cross.
   crossing-present : crossing N s ⊆ present N
-  unfolding crossing
-  crossing-present e m =
-      T-and (hasEdge N e) (xor (has s (firstEnd N e)) (has s (secondEnd N e))) .0
-      (in-chosen (λ k. hasEdge N k && xor (has s (firstEnd N k)) (has s (secondEnd N k))) 64 e .0 m .1) .0
+  crossing-present e m = in-crossingOf N B (present N) (⊆-refl (present N)) s e .0 m .0
 
   -- Without the edges that cross no walk leaves the set.
   crossing-closed : Closed (without N (crossing N s)) s

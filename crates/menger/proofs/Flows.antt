@@ -11,8 +11,8 @@
 --                        each weighing of the nodes, with k units put in at the sink and taken out at the source, both sums are the same
 --   Free N F e u v       a unit can pass the edge e from u to v: it is idle, or it carries from v to u, and what it carries goes back
 --   Pushed N F u v p     what edges carry after a unit more went from u to v by the steps p
-use mathlib.Core.Path.{_≡_, refl, sym, ap, _∙_}
-use mathlib.Core.Bool.{Bool, true, false}
+use mathlib.Core.Path.{_≡_, refl, ap, _∙_}
+use mathlib.Core.Bool.{true, false}
 use mathlib.Core.List.{List, [], _∷_}
 use mathlib.Core.Logic.{_⊎_, inl, inr, _≢_}
 use Prim.Native.Nat.{ℕ, _+_, _*_}

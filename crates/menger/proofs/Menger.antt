@@ -4,15 +4,18 @@
 --   Narrowest N k        k is the most, and some mincut has k edges
 use mathlib.Core.Path.{_≡_, refl, sym, _∙_}
 use mathlib.Core.List.{List, [], _∷_, pairwise-singleton, List·Memᴰ, List·Memᴰ·head, List·Memᴰ·eq-of-singleton}
+use mathlib.Core.Bool.{false}
 use mathlib.Core.Logic.{_⊎_, inl, inr, _↔_}
-use Prim.Native.Nat.{ℕ, zero, suc, _+_, _^_, _≤_, _<_}
+use Prim.Native.Nat.{ℕ, _≤_, _<_}
 use native.Mathlib.Nat.{lt-of-le-of-lt, le-antisymm}
 use native.Mathlib.Omega.{arith}
+use denote.Floats.{is-true}
 use lib.ListN.{length, getD}
-use Rattle.bitset.specs.Members.{_∈_, size}
+use Rattle.bitset.specs.Members.{has, _∈_, _⊆_, size}
 use Rattle.bitset.specs.Families.{Disjoint}
-use Rattle.bitset.proofs.Subsets.{subset-le}
-use Rattle.bitset.proofs.Size.{size-mono}
+use Rattle.bitset.proofs.Subsets.{same-test, subset-le}
+use Rattle.bitset.proofs.Size.{size-mono, size-lt}
+use Rattle.bitset.proofs.Sets.{whole-or-missing}
 use Rattle.bitset.proofs.Families.{disjoint-at-most}
 use Rattle.network.specs.declared.Network.{Network}
 use Rattle.network.specs.Record.{present}
@@ -22,9 +25,10 @@ use Rattle.graph.specs.Lists.{CompleteList}
 use Rattle.graph.specs.Reach.{Bounded}
 use Rattle.graph.proofs.Cuts.{cut-transversal, cut-shrink}
 use Rattle.graph.proofs.Sound.{Sound}
+use Rattle.graph.proofs.EdgeSets.{edge-lt}
 use Rattle.menger.specs.Separate.{Apart, Most, Fewest}
-use Rattle.menger.proofs.Augmenting.{Full, full}
-use Rattle.menger.proofs.Peeling.{Peeled, peel}
+use Rattle.menger.proofs.Augmenting.{full}
+use Rattle.menger.proofs.Peeling.{peel}
 
 pub record Narrowest (N : Network) (k : ℕ) : Type 0 where
   pub most : Most N k
@@ -42,6 +46,16 @@ apart-cut N B l apart c cut =
 pub apart-most : (N : Network) → Bounded N → (l : List ℕ) → Apart N l → (c : ℕ) → Cut N c → length l ≡ size 64 c → Most N (length l)
 apart-most N B l apart c cut same =
     record { ways = l; apart = apart; count = refl; most = λ k other. rw same (apart-cut N B k other c cut) }
+
+-- A cut is a mincut if none has fewer edges.
+pub fewest-mincut : (N : Network) → Bounded N → (c : ℕ) → Cut N c → ((d : ℕ) → Cut N d → size 64 c ≤ size 64 d) → Mincut N c
+fewest-mincut N B c cut fewest = record { cut = cut; least = λ d within other. go d within (fewest d other) (whole-or-missing d c within) }
+  where
+    go : (d : ℕ) → d ⊆ c → size 64 c ≤ size 64 d → (d ≡ c) ⊎ ((e : ℕ) × (e ∈ c) × (e ∈ d → ⊥)) → d ≡ c
+    go d within h (inl same) = same
+    go d within h (inr (e, m, n)) =
+        let below = edge-lt N B e (cut .present e m) in
+        absurd (omega (arith, h, size-lt 64 d c e within below (is-true (has c e) m) (same-test (has d e) false n absurd)))
 
 -- There is one largest number.
 pub most-unique : (N : Network) (k j : ℕ) → Most N k → Most N j → k ≡ j

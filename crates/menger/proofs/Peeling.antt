@@ -17,7 +17,7 @@ use Rattle.sequences.specs.Counts.{bit}
 use Rattle.sequences.proofs.Counts.{bit-mono}
 use Rattle.sequences.proofs.Sums.{sum-mono}
 use Rattle.bitset.specs.Members.{has, _∈_}
-use Rattle.bitset.specs.Families.{Meets, Disjoint}
+use Rattle.bitset.specs.Families.{Disjoint}
 use Rattle.bitset.proofs.Subsets.{same-test}
 use Rattle.bitset.proofs.Sets.{∈-dec}
 use Rattle.network.specs.declared.Network.{Network}
@@ -25,7 +25,7 @@ use Rattle.graph.specs.Paths.{Joins, edgesOf, Minpath}
 use Rattle.graph.specs.Reach.{Bounded}
 use Rattle.graph.proofs.Walks.{joins-sym}
 use Rattle.menger.specs.Separate.{Apart}
-use Rattle.menger.proofs.Ways.{Along, Closure, Way, along-leads, along-edge, along-wider, closure}
+use Rattle.menger.proofs.Ways.{Closure, Way, along-leads, along-edge, along-wider, closure}
 use Rattle.menger.proofs.Flows.{Link, Idle, Joined, leaves, arrives, Flow, Free, Pushed, idle-dec, push}
 
 pub record Back (N : Network) (F : ℕ → Link) (e u v : ℕ) : Type 0 where
@@ -127,6 +127,7 @@ module _ (N : Network) (B : Bounded N) where
           let others = rest (pushed .flow) left in
           let off : (r : ℕ) → List·Memᴰ r (others .ways) → (e : ℕ) → e ∈ r → e ∈ first → ⊥ =
           λ r m e i j. others .over r m e i (pushed .spent e j (way-carries N B F (flow .joined) w e j)) in
+          let apart : (r : ℕ) → List·Memᴰ r (others .ways) → Disjoint first r = λ r m (e, (i, j)). off r m e j i in
           record {
             ways = first ∷ others .ways;
             apart = record {
@@ -134,7 +135,7 @@ module _ (N : Network) (B : Bounded N) where
                 | inl q ↦ rw q (way-minpath N B F (flow .joined) w)
                 | inr i ↦ others .apart .minpaths r i
               ];
-              disjoint = Pairwise·cons (λ r m. ∥∥₁-elim m ¬-prop (λ i (k, (a, b)). off r i k b a)) (others .apart .disjoint);
+              disjoint = Pairwise·cons (λ r m. ∥∥₁-elim m ¬-prop (apart r)) (others .apart .disjoint);
             };
             count = ap suc (others .count);
             over = λ r m e i. elim (List·Memᴰ·cases-cons m) [

@@ -1,8 +1,7 @@
 -- The tests of minpaths that share no edge, and of the fewest edges of rows, are right.
 -- Assumes that the edges have numbers below 64 and ends below the node count.
-use mathlib.Core.Path.{_≡_, refl, sym}
-use mathlib.Core.Bool.{Bool, true, false, not, _&&_}
-use mathlib.Core.List.{List, [], _∷_, Pairwise, Pairwise·nil, Pairwise·cons, List·Memᴰ, List·Memᴰ·not-nil, List·Memᴰ·cases-cons}
+use mathlib.Core.Bool.{Bool, not, _&&_}
+use mathlib.Core.List.{List, [], _∷_, Pairwise·nil, Pairwise·cons, List·Memᴰ, List·Memᴰ·not-nil, List·Memᴰ·cases-cons}
 use mathlib.Core.Logic.{inl, inr, _↔_, Iff·trans, Iff·symm, ∥∥₁-elim}
 use mathlib.Core.HLevel.{¬-prop}
 use Prim.Native.Nat.{ℕ, _^_, _<_}
@@ -17,8 +16,8 @@ use Rattle.sequences.proofs.Counts.{member-counted}
 use Rattle.sequences.proofs.Places.{mem-at, mem-place}
 use Rattle.sequences.proofs.Tests.{T-and, T-not, T-eqb}
 use Rattle.sequences.proofs.Words.{T-every}
-use Rattle.bitset.specs.Members.{has, _⊆_, _∖_, _∈_, members, size}
-use Rattle.bitset.specs.Families.{Disjoint, Holds, Transversal, Blocker}
+use Rattle.bitset.specs.Members.{has, _⊆_, _∖_, members, size}
+use Rattle.bitset.specs.Families.{Disjoint, Transversal}
 use Rattle.bitset.proofs.Subsets.{⊆-trans, subset-and}
 use Rattle.bitset.proofs.Sets.{in-and, minus-⊆, member-lt, not-zero}
 use Rattle.bitset.proofs.MemberList.{in-members}

@@ -6,7 +6,7 @@
 --   Closure P t          a set of nodes that no allowed step enters, with t in it, and with a way to t for each of them
 use mathlib.Core.Path.{_≡_, refl, _∙_}
 use mathlib.Core.Bool.{false}
-use mathlib.Core.List.{List, [], _∷_, List·Memᴰ, List·Memᴰ·head, List·Memᴰ·not-nil, List·Memᴰ·cases-cons, List·Memᴰ·eq-of-singleton}
+use mathlib.Core.List.{List, [], _∷_, List·Memᴰ, List·Memᴰ·not-nil, List·Memᴰ·cases-cons, List·Memᴰ·eq-of-singleton}
 use mathlib.Core.Logic.{_⊎_, inl, inr}
 use Prim.Native.Nat.{ℕ, zero, suc, _+_, _^_, _≤_, _<_}
 use native.Mathlib.Nat.{not-suc-le-zero, le-of-suc-le-suc, eq-or-lt-of-le}
@@ -23,6 +23,7 @@ use Rattle.graph.specs.Reach.{Bounded}
 use Rattle.graph.proofs.Walks.{edges-nil, edges-cons, joins-sym}
 use Rattle.graph.proofs.EdgeSets.{joins-stored, edge-lt}
 
+-- `Leads N` is this for `Joins N`.
 unfoldable pub Along : (ℕ → ℕ → ℕ → Type 0) → ℕ → List Hop → ℕ → Type 0
 Along P u [] v = u ≡ v
 Along P u (s ∷ p) v = P (s .edge) u (s .to) × Along P (s .to) p v

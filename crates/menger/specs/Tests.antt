@@ -6,7 +6,7 @@
 --                        [computed: minpathTest-iff (menger/proofs/Tests)]
 --   apartTest N l        whether the sets of l are minpaths no two of which share an edge
 --   fewestTest cuts k    whether some row of the list has k edges, and none has fewer
-use mathlib.Core.Bool.{Bool, true, false, not, _&&_}
+use mathlib.Core.Bool.{Bool, true, not, _&&_}
 use mathlib.Core.List.{List, [], _∷_}
 use Prim.Native.Nat.{ℕ, _^_}
 use lib.Bits.{bitAnd}
