@@ -243,6 +243,9 @@ uint8_t cutlist_metres(
  * points that the server still reaches when the cut is taken out. Refusals of cutlist_fault, 11 and
  * 12. Without a route the list is one row: cut 0, side the server alone.
  *
+ * The fewest cables in any row, cables between the same points counted singly, are as many as the
+ * most routes of which no two share a cable: so many separate ways lead from server to room.
+ *
  *   cuts, cuts_length    out: the lent rows for cuts; rows past the count hold what they held
  *   sides, sides_length  out: the lent rows for near sides, as many as for cuts; likewise
  *   count                out: how many rows were listed, 0 on refusal

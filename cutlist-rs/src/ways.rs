@@ -320,6 +320,49 @@ mod tests {
         assert_eq!(lines, ["3 4 5 2 | 0 3 4 2 5", "0 6 7 8 | 0 1 6 7 5"]);
     }
 
+    /// The first way that is found goes over cable 1, the second sends it back, and the third goes over it
+    /// the other way.
+    #[test]
+    fn a_cable_is_gone_over_both_ways() {
+        let short = [(0, 1), (1, 2), (2, 3)];
+        let to_2 = [(0, 4), (4, 5), (5, 2), (0, 6), (6, 7), (7, 2)];
+        let from_1 = [(1, 8), (8, 9), (9, 3), (1, 10), (10, 11), (11, 3)];
+        let found = separate(&hall(12, 3, &[&short[..], &to_2, &from_1].concat()));
+        assert_eq!(found.ways().len(), 3);
+        let back = |way: &Way| way.nodes().windows(2).any(|step| step == [2, 1]);
+        assert!(found.ways().iter().any(back), "{found:?}");
+    }
+
+    /// What is found is shown in every plan that is drawn, of up to 64 points and cables, and there are as
+    /// many ways as the narrowest cut of the list has cables, where there is a list.
+    #[test]
+    fn drawn_plans_have_their_ways() {
+        let mut state: u64 = 7;
+        let mut below = |bound: u64| {
+            state = state.wrapping_mul(6364136223846793005).wrapping_add(1);
+            ((state >> 33) % bound) as u8
+        };
+        let (mut met, mut listed) = ([0; 4], 0);
+        for round in 0..3000 {
+            let nodes = 2 + below(if round % 2 == 0 { 6 } else { 63 });
+            let sink = 1 + below(u64::from(nodes) - 1);
+            let cables = below(65).min(if round % 4 == 0 { 12 } else { 64 });
+            let ends: Vec<(u8, u8)> = (0..cables)
+                .map(|_| (below(nodes.into()), below(nodes.into())))
+                .collect();
+            let plan = hall(nodes, sink, &ends);
+            let found = separate(&plan);
+            met[found.ways().len().min(3)] += 1;
+            if let Ok(rows) = plan.mincuts(2048) {
+                assert_eq!(rows.fewest(), found.ways().len(), "{plan:?}");
+                assert!(rows.cuts().contains(&found.cut()), "{plan:?}");
+                listed += 1;
+            }
+        }
+        assert!(met.iter().all(|&plans| plans > 100), "{met:?}");
+        assert!((1000..3000).contains(&listed), "{listed}");
+    }
+
     /// No list is made, which would have 2^31 rows, or one for each half of a circle.
     #[test]
     fn large_halls_are_answered() {

@@ -229,6 +229,11 @@ pub fn pairs(record: &Record, set: u64) -> BTreeSet<(u8, u8)> {
     members(set).map(|edge| pair(record, edge)).collect()
 }
 
+/// Whether two cables of a set join the same points.
+pub fn is_doubled(record: &Record, set: u64) -> bool {
+    pairs(record, set).len() < set.count_ones() as usize
+}
+
 /// For each cable present those that join the same two points, itself among them.
 pub fn trunks(record: &Record) -> [u64; SLOTS] {
     let mut trunks = [0; SLOTS];

@@ -10,6 +10,7 @@ use crate::ordinary;
 use crate::record::{Record, SLOTS};
 use crate::reference::{self, Refusal, LONGEST_PLAN};
 use crate::rng::Rng;
+use crate::separate;
 use crate::sys;
 
 /// Reads the plan; on refusal the record must be all zero. Gives the refusal number.
@@ -271,6 +272,26 @@ fn list_by(
     assert_rows("cut", &cuts, &expected_cuts, record);
     assert_rows("side", &sides, &expected_sides, record);
     number
+}
+
+/// One of the two list calls, on guarded memory.
+pub type Listing = fn(&Record, &mut [u64], &mut [Nodes]) -> (u8, usize);
+
+/// Lists a record by a call that does not refuse it with these rows, whatever they hold: the fewest
+/// cables in any row, as the call left them, are as many as the most routes of which no two share a
+/// cable. Gives the cut rows of the list.
+pub fn separate_ways(
+    call: Listing,
+    record: &Record,
+    mut cuts: Vec<u64>,
+    mut sides: Vec<Nodes>,
+) -> Vec<u64> {
+    let (refusal, count) = call(record, &mut cuts, &mut sides);
+    assert_eq!(refusal, 0, "record {record:?}");
+    cuts.truncate(count);
+    let (fewest, most) = (separate::fewest(&cuts), separate::most_by_flow(record));
+    assert_eq!(fewest, most, "record {record:?}");
+    cuts
 }
 
 /// Finds this useful part and this list of a record without fault, with the rows needed, with more,

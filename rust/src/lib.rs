@@ -9,6 +9,7 @@
 //! - `brute`: useful part, verdicts and lists by force, from the ways through a plan
 //! - `sides`: a second lister, by near sides, for larger plans
 //! - `ordinary`: the library's own method in ordinary Rust, to be measured beside it
+//! - `separate`: the most routes of which no two share a cable, and the fewest cables in any row
 //! - `compare`: one question put to both, the answers compared
 //! - `rng`: a small generator with a fixed seed
 //! - `halls`: halls with a name or a pattern
@@ -37,6 +38,7 @@ pub mod plans;
 pub mod record;
 pub mod reference;
 pub mod rng;
+pub mod separate;
 pub mod sides;
 pub mod sys;
 pub mod tally;

@@ -23,7 +23,7 @@ use cutlist_tests::record::{Record, MOST_NODES};
 use cutlist_tests::reference::DECIDING;
 use cutlist_tests::rng::Rng;
 use cutlist_tests::weeks::Week;
-use cutlist_tests::{brute, reference, sides, sys};
+use cutlist_tests::{brute, reference, separate, sides, sys};
 
 fn cases(seed: u64, count: u64) -> impl Iterator<Item = (u64, Vec<u8>)> {
     (0..count).map(move |number| (number, making::bytes(seed, number)))
@@ -264,6 +264,39 @@ fn a_wrong_width_is_found_and_shrunk() {
     assert_eq!(brute::pairs(&record, record.present).len(), 1);
 }
 
+/// The cuts that the library lists, none if they are refused or too many.
+fn listed(record: &Record) -> Vec<u64> {
+    let (mut cuts, mut sides) = (vec![0; 100], vec![0; 100]);
+    let (_, rows) = sys::list(record, &mut cuts, &mut sides);
+    cuts.truncate(rows);
+    cuts
+}
+
+/// A wrong claim about separate ways: that there are as many as the least width of a row.
+fn ask_with_wrong_ways(bytes: &[u8], counts: &mut Counts) {
+    questions::ask(bytes, counts);
+    let record = Case::of(bytes).record;
+    let (_, table) = sys::widths(&record, &listed(&record));
+    if let Some(width) = table.iter().position(|&rows| rows > 0) {
+        let ways = separate::most_by_flow(&record);
+        assert_eq!(ways, width, "a way is wrong");
+    }
+}
+
+#[test]
+fn wrong_ways_are_found_and_shrunk() {
+    let found = search(cases(98, 1_000), ask_with_wrong_ways).expect_err("more ways");
+    assert!(found.message.contains("a way is wrong"), "{found:?}");
+    let wrong =
+        |bytes: &[u8]| panic_of(|| ask_with_wrong_ways(bytes, &mut Counts::default())).is_some();
+    let shrunk = shrink(&found.bytes, 10_000, wrong);
+    assert!(wrong(&shrunk));
+    // Nothing is left but two points and two cables, which are a way each.
+    let record = Case::of(&shrunk).record;
+    assert_eq!((record.nodes, record.present.count_ones()), (2, 2));
+    assert_eq!(separate::ways(&record).len(), 2);
+}
+
 #[test]
 fn shrinking_ends_after_so_many_tries() {
     let tries = Cell::new(0);
@@ -318,6 +351,8 @@ fn every_byte_string_is_a_case() {
     assert!(counts.silent_minutes.total() >= 3 * counts.cases);
     assert_eq!(counts.simulate.total(), 3 * counts.cases);
     assert!(counts.widths.total() >= 3 * counts.cases);
+    let separated: u64 = counts.separate_ways.iter().sum();
+    assert!(separated >= counts.fault.of(0));
 }
 
 #[test]
@@ -523,6 +558,8 @@ fn cases_of_every_kind_are_made() {
         let far = fit && sides::distance(record) >= Some(FAR);
         let (openings, works) = (case.week.openings.len(), case.week.works.len());
         let steps = |edge: usize| record.first[edge].abs_diff(record.second[edge]);
+        let ways = fit.then(|| separate::most_by_flow(record));
+        let doubled = |cut| brute::is_doubled(record, cut);
         for (kind, met) in [
             ("no bytes", case.plan.is_empty()),
             ("more bytes than decide", case.plan.len() > DECIDING),
@@ -548,7 +585,15 @@ fn cases_of_every_kind_are_made() {
             ("a loop", fit && record.loops() != 0),
             (
                 "cables between the same points",
-                fit && brute::pairs(record, record.present).len() < record.edges().count(),
+                fit && doubled(record.present),
+            ),
+            ("no way", ways == Some(0)),
+            ("one separate way", ways == Some(1)),
+            ("two separate ways", ways == Some(2)),
+            ("three separate ways or more", ways >= Some(3)),
+            (
+                "a narrowest cut with cables between the same points",
+                fit && doubled(separate::narrow_cut(record)),
             ),
             (
                 "a trimmed plan",

@@ -7,10 +7,11 @@ use crate::answers::Verdict::{Minimal, NotCut, NotMinimal};
 use crate::brute::{self, members};
 use crate::drills::Drill;
 use crate::plans;
-use crate::record::{Record, MOST_NODES};
+use crate::record::{Record, MOST_NODES, SLOTS};
 use crate::reference::{
     self, FAULTS, LONGEST_PLAN, MOST_OPENINGS, MOST_STEPS, MOST_WORKS, READING, WEEK,
 };
+use crate::separate;
 use crate::sides;
 use crate::tally::{Tally, Verdicts};
 use crate::weeks::Week;
@@ -123,6 +124,13 @@ pub struct Counts {
     pub narrow_rows: u64,
     pub rows_without_the_lowest: u64,
     pub lists_without_a_row: u64,
+    /// Complete lists, of halls as they are and cut down, by the fewest cables in any row, which are as
+    /// many as the separate ways: 0, 1, 2, and 3 or more; the most; and the lists with a narrowest row of
+    /// which two cables join the same points. Halls whose ways were counted by force too.
+    pub separate_ways: [u64; 4],
+    pub most_ways: usize,
+    pub doubled_narrowest: u64,
+    pub ways_by_force: u64,
 }
 
 impl Counts {
@@ -322,8 +330,17 @@ impl Counts {
         self.lists_without_a_row += u64::from(rows.is_empty());
     }
 
+    /// Notes the rows of a complete list, whose fewest cables are as many as the separate ways.
+    pub fn separated(&mut self, record: &Record, rows: &[u64]) {
+        let ways = separate::fewest(rows);
+        self.separate_ways[ways.min(3)] += 1;
+        self.most_ways = self.most_ways.max(ways);
+        let doubled = |row| brute::is_doubled(record, row);
+        self.doubled_narrowest += u64::from(separate::narrowest(rows).any(doubled));
+    }
+
     /// Every refusal of every function occurred and no other, every verdict, short and long lists,
-    /// long ways, loops, trimmed halls, lengths, logs, weeks, drills and widths.
+    /// long ways, loops, trimmed halls, lengths, logs, weeks, drills, widths and separate ways.
     pub fn assert_wide(&self) {
         for (tally, of_the_plan, more) in [
             (&self.decode, READING, &[][..]),
@@ -415,6 +432,13 @@ impl Counts {
         assert!(self.narrow_rows >= 100_000, "{self}");
         assert!(self.rows_without_the_lowest >= 100_000, "{self}");
         assert!(self.lists_without_a_row >= 1_000, "{self}");
+        assert!(
+            self.separate_ways.iter().all(|&lists| lists >= 5_000),
+            "{self}"
+        );
+        assert_eq!(self.most_ways, SLOTS, "{self}");
+        assert!(self.doubled_narrowest >= 5_000, "{self}");
+        assert!(self.ways_by_force >= 5_000, "{self}");
     }
 }
 
@@ -470,7 +494,9 @@ impl fmt::Display for Counts {
              {} partly silent at repair setting 0, {} without a cable, {} with gaps in the cable numbers; \
              too many steps: {} that in 32 bits are few, {} behind a fault of the plan; \
              {} rows counted, {} of them narrower than they have cables, {} without the lowest cable of a pair; \
-             {} lists without a row counted",
+             {} lists without a row counted; \
+             lists with 0, 1, 2 and more separate ways: {:?}, up to {}, {} with two cables of a narrowest row \
+             between the same points; ways of {} halls counted by force too",
             all.of(0),
             self.short_lists,
             self.longer_lists,
@@ -529,7 +555,11 @@ impl fmt::Display for Counts {
             self.rows_counted,
             self.narrow_rows,
             self.rows_without_the_lowest,
-            self.lists_without_a_row
+            self.lists_without_a_row,
+            self.separate_ways,
+            self.most_ways,
+            self.doubled_narrowest,
+            self.ways_by_force
         )
     }
 }

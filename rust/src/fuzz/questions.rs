@@ -1,6 +1,7 @@
 //! The questions of a case, put to the library and to the reference. A difference is a panic.
 
 use crate::answers::{Part, Row, Verdict};
+use crate::compare::Listing;
 use crate::drills::{self, Drill};
 use crate::fuzz::case::{self, Case, Size};
 use crate::fuzz::counts::Counts;
@@ -11,7 +12,7 @@ use crate::record::{Record, SLOTS};
 use crate::reference::{LONGEST_PLAN, MOST_STEPS};
 use crate::rng::Rng;
 use crate::weeks::{self, Week};
-use crate::{brute, compare, plans, sides};
+use crate::{brute, compare, plans, separate, sides, sys};
 
 /// The longest list that the reference makes, so that it answers soon whatever the hall. A hall
 /// with more cuts than that gets no more rows than that, and the answer can only be 12.
@@ -67,6 +68,7 @@ fn on_the_record(case: &Case, counts: &mut Counts) {
     if fault == 0 {
         other_loops(case, &known, &mut rng, counts);
         trimmed(case, &known, &mut rng, counts);
+        separate_ways(case, &known, counts);
     }
     let is_silent = |down| known.is_silent(record, &cuts, down);
     playing_back(case, &cuts, is_silent, counts);
@@ -186,6 +188,26 @@ fn trimmed(case: &Case, known: &Known, rng: &mut Rng, counts: &mut Counts) {
     let hanging = rng.pick(&plans::HANGING);
     if let Some(more) = plans::with_hanging(rng, &plan, hanging) {
         part_and_list(case, &more, &known, rng, counts);
+    }
+}
+
+/// Where the list of an accepted hall is known, the fewest cables in any row that the library leaves are
+/// as many as the separate ways: of the hall as it is, and cut down. Those of a small hall are counted by
+/// force too.
+fn separate_ways(case: &Case, known: &Known, counts: &mut Counts) {
+    let Some(rows) = &known.rows else { return };
+    let mut rng = Rng::numbered(case.set, 4);
+    let by_force = known.minpaths.as_deref().map(separate::most_by_force);
+    counts.ways_by_force += u64::from(by_force.is_some());
+    let (plan, _) = plans::trimmed(&mut rng, &case.record, known.part);
+    let calls: [(Listing, &Record); 2] = [(sys::list, &case.record), (sys::list_trimmed, &plan)];
+    for (call, record) in calls {
+        let lent = rows.len() + rng.below(3) * rng.below(20);
+        let (cuts, sides) = lent::stale_rows(&mut rng, lent, lent);
+        let cuts = compare::separate_ways(call, record, cuts, sides);
+        counts.separated(record, &cuts);
+        let fewest = separate::fewest(&cuts);
+        assert_eq!(by_force.unwrap_or(fewest), fewest, "{record:?}");
     }
 }
 
