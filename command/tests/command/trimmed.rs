@@ -92,23 +92,6 @@ fn what_is_wrong_with_the_plan_comes_before_26() {
 }
 
 #[test]
-fn several_files_stand_each_below_its_name() {
-    let folder = Folder::new();
-    let plan = &folder.file("plan", BRIDGE);
-    let none = &folder.file("none.hex", "50 02 53 00 01 45");
-    let ended = assert_same(&[plan, none]);
-    let (first, second) = (plan.display(), none.display());
-    ended.listed(&format!(
-        "{first}:\n{BRIDGE_LIST}{second}:\ncuts 1\n- | 0\n"
-    ));
-    let given = feed(
-        Command::new(script()).args(["trimmed", "-"]).arg(plan),
-        BRIDGE,
-    );
-    given.listed(&format!("-:\n{BRIDGE_LIST}{first}:\n{BRIDGE_LIST}"));
-}
-
-#[test]
 fn of_several_files_every_one_is_tried_and_the_largest_status_counts() {
     let folder = Folder::new();
     let plan = &folder.file("plan", BRIDGE);
@@ -128,12 +111,6 @@ fn of_several_files_every_one_is_tried_and_the_largest_status_counts() {
         assert_eq!((ended.status, &ended.out), (Some(2), &printed));
         assert_eq!(ended.err.lines().count(), 3, "{ended:?}");
     }
-}
-
-#[test]
-fn standard_input_is_not_taken_twice() {
-    feed(Command::new(script()).args(["trimmed", "-", "-"]), BRIDGE)
-        .failed(2, &["only once", "Usage:"]);
 }
 
 #[test]

@@ -57,34 +57,3 @@ fn a_hall_with_too_many_cuts_for_a_list_has_its_ways() {
     let ended = ways(&[&folder.file("longest", longest())]);
     assert!(ended.out.starts_with("ways 64\n0 | 0 "), "{ended:?}");
 }
-
-#[test]
-fn a_plan_is_refused_as_it_is_where_it_is_listed() {
-    let folder = Folder::new();
-    for (number, words, plan) in REFUSED {
-        let plan = &folder.file("plan.hex", plan);
-        let (ended, listed) = (ways(&[plan]), cutlist(&[plan]));
-        ended.refused(number, words);
-        assert_eq!((ended.out, ended.err), (listed.out, listed.err));
-    }
-}
-
-#[test]
-fn several_files_stand_each_below_its_name() {
-    let folder = Folder::new();
-    let plan = &folder.file("plan", BRIDGE);
-    let refused = &folder.file("refused", "");
-    let malformed = &folder.file("malformed.hex", "5");
-    let first = plan.display();
-    ways(&[plan, plan]).listed(&format!("{first}:\n{WAYS}{first}:\n{WAYS}"));
-    feed(Command::new(script()).args(["ways", "-", "-"]), BRIDGE)
-        .failed(2, &["only once", "Usage:"]);
-
-    // Every one is tried, and the largest status counts.
-    let printed = format!("{}:\nrefused 1\n{first}:\n{WAYS}", refused.display());
-    let ended = ways(&[refused, plan]);
-    assert_eq!((ended.status, &ended.out), (Some(1), &printed));
-    let ended = ways(&[malformed, refused, plan]);
-    assert_eq!((ended.status, &ended.out), (Some(2), &printed));
-    assert_eq!(ended.err.lines().count(), 2, "{ended:?}");
-}

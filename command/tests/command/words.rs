@@ -61,6 +61,9 @@ const WORDS: [(&str, Option<&str>, &str); 7] = [
     ),
 ];
 
+/// The words that take any number of files, each with what it answers for the bridge.
+const OF_FILES: [(&str, &str); 3] = [("trimmed", BRIDGE_LIST), ("widths", WIDTHS), ("ways", WAYS)];
+
 /// A word without its options.
 fn alone(word: &str) -> &str {
     word.split(' ').next().expect("a word")
@@ -146,6 +149,46 @@ fn no_beginning_of_a_plan_has_an_answer() {
             let ended = fed(&format!("{word} -"), second, &MEASURED[..end]);
             ended.refused(1, "the plan stops early");
         }
+    }
+}
+
+#[test]
+fn a_plan_is_refused_as_it_is_where_it_is_listed() {
+    let folder = Folder::new();
+    for (word, _) in OF_FILES {
+        for (number, words, plan) in REFUSED {
+            let plan = &folder.file("plan.hex", plan);
+            let (ended, listed) = (asked(word, plan, None), cutlist(&[plan]));
+            ended.refused(number, words);
+            assert_eq!((ended.out, ended.err), (listed.out, listed.err));
+        }
+    }
+}
+
+#[test]
+fn several_files_stand_each_below_its_name() {
+    let folder = Folder::new();
+    let plan = &folder.file("plan", BRIDGE);
+    let other = &folder.file("other.hex", hexadecimal(BRIDGE));
+    let refused = &folder.file("refused", "");
+    let malformed = &folder.file("malformed.hex", "5");
+    let (first, second) = (plan.display(), other.display());
+    for (word, answer) in OF_FILES {
+        let of = |files: &[&PathBuf]| run(Command::new(script()).arg(word).args(files));
+        let both = format!("{first}:\n{answer}{second}:\n{answer}");
+        of(&[plan, other]).listed(&both);
+        let given = feed(Command::new(script()).args([word, "-"]).arg(plan), BRIDGE);
+        given.listed(&format!("-:\n{answer}{first}:\n{answer}"));
+        feed(Command::new(script()).args([word, "-", "-"]), BRIDGE)
+            .failed(2, &["only once", "Usage:"]);
+
+        // Every one is tried, and the largest status counts.
+        let ended = of(&[refused, plan, other]);
+        let printed = format!("{}:\nrefused 1\n{both}", refused.display());
+        assert_eq!((ended.status, &ended.out), (Some(1), &printed));
+        let ended = of(&[malformed, refused, plan, other]);
+        assert_eq!((ended.status, &ended.out), (Some(2), &printed));
+        assert_eq!(ended.err.lines().count(), 2, "{ended:?}");
     }
 }
 
