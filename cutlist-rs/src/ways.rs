@@ -83,24 +83,9 @@ impl SeparateWays {
         self.cut
     }
 
-    /// Whether this is what it is to be of the plan. The verdict is the library's.
-    fn is_of(&self, plan: &Plan) -> bool {
-        let mut taken = 0;
-        let mut apart = self.ways.iter().all(|way| {
-            let shared = way.route().0 & taken;
-            taken |= way.route().0;
-            shared == 0
-        });
-        apart &= self.ways.iter().all(|way| way.is_of(plan));
-        apart
-            && self.cut.len() == self.ways.len()
-            && plan.classify(self.cut) == Ok(Verdict::Minimal)
-    }
-
     /// Those of the plan, if what is found is shown to be right.
     pub(crate) fn of(plan: &Plan) -> Result<SeparateWays, Unshown> {
-        let found = found(plan);
-        found.is_of(plan).then_some(found).ok_or(Unshown)
+        found(plan).shown(plan)
     }
 }
 
@@ -116,6 +101,39 @@ impl fmt::Display for Unshown {
 }
 
 impl Error for Unshown {}
+
+/// What the search found: nothing that a caller sees before it is shown to be right.
+#[derive(Clone, Debug)]
+struct Found {
+    ways: Vec<Way>,
+    cut: EdgeSet,
+}
+
+impl Found {
+    /// The separate ways that these are, if they are those of the plan.
+    fn shown(mut self, plan: &Plan) -> Result<SeparateWays, Unshown> {
+        if !self.is_of(plan) {
+            return Err(Unshown);
+        }
+        self.ways.sort_by_key(Way::route);
+        let Found { ways, cut } = self;
+        Ok(SeparateWays { ways, cut })
+    }
+
+    /// Whether these are ways of the plan of which no two share a cable, and the cut has as many cables. That
+    /// it is one, and minimal, is the library's verdict.
+    fn is_of(&self, plan: &Plan) -> bool {
+        let mut taken = 0;
+        let mut apart = |way: &Way| {
+            let shared = way.route().0 & taken;
+            taken |= way.route().0;
+            shared == 0
+        };
+        self.ways.iter().all(|way| way.is_of(plan) && apart(way))
+            && self.cut.len() == self.ways.len()
+            && plan.classify(self.cut) == Ok(Verdict::Minimal)
+    }
+}
 
 // ---- the search
 
@@ -150,7 +168,7 @@ impl Flow {
 
 /// The largest flow of single units, taken apart into ways. Where no unit more can pass, the cables
 /// that leave what the server still reaches are a cut, and each of them carries one unit.
-fn found(plan: &Plan) -> SeparateWays {
+fn found(plan: &Plan) -> Found {
     let mut flow = Flow([None; 64]);
     let last = loop {
         let spread = Spread::over(plan, |step| !flow.carries(step));
@@ -179,8 +197,7 @@ fn found(plan: &Plan) -> SeparateWays {
                 .collect(),
         });
     }
-    ways.sort_by_key(Way::route);
-    SeparateWays { ways, cut }
+    Found { ways, cut }
 }
 
 /// What the server reaches by some steps, nearest first: the step by which each point was met.
@@ -377,20 +394,26 @@ mod tests {
         assert_eq!((found.ways().len(), found.cut().len()), (2, 2));
     }
 
-    /// What is not right is not shown, whatever is wrong with it.
+    /// What is not right is not given, whatever is wrong with it.
     #[test]
     fn what_is_wrong_is_not_given() {
-        let (plan, right) = (bridge(), separate(&bridge()));
-        assert!(right.is_of(&plan));
+        let plan = bridge();
         let [one, other] = [way(&[0, 3], &[0, 1, 3]), way(&[1, 4], &[0, 2, 3])];
-        let wrong = |ways: &[&Way], cut| {
+        let shown = |ways: &[&Way], cut| {
             let ways = ways.iter().copied().cloned().collect();
-            let found = SeparateWays {
+            Found {
                 ways,
                 cut: EdgeSet(cut),
-            };
-            assert!(!found.is_of(&plan), "{found:?}");
+            }
+            .shown(&plan)
         };
+        let wrong = |ways: &[&Way], cut| {
+            assert_eq!(shown(ways, cut), Err(Unshown), "{ways:?}, {cut:#b}");
+        };
+        // Whatever the order in which they were found; and the other narrowest cut shows them too.
+        assert_eq!(shown(&[&one, &other], 0b11), plan.separate_ways());
+        assert_eq!(shown(&[&other, &one], 0b11), plan.separate_ways());
+        assert!(shown(&[&one, &other], 0b11000).is_ok());
         // One too few, one too many, and one that is taken twice.
         wrong(&[&one], 0b11);
         wrong(&[&one, &other, &one], 0b1110);
@@ -398,17 +421,13 @@ mod tests {
         // Two ways that share cable 0 or cable 4.
         wrong(&[&one, &way(&[0, 2, 4], &[0, 1, 2, 3])], 0b11);
         wrong(&[&way(&[0, 2, 4], &[0, 1, 2, 3]), &other], 0b11);
-        // No cut, a cut that is not minimal or has more cables, a cable that the plan has not.
-        for cut in [0, 0b1, 0b1001, 0b111, 0b1110, 0b10101, 0b100011, 1 << 63] {
+        // No cut, more cables, fewer, and a cable that the plan has not.
+        for cut in [0, 0b1, 0b1001, 0b111, 0b1110, 0b10101, 0b100011] {
             wrong(&[&one, &other], cut);
         }
-        // The other narrowest cut shows it too.
-        let found = SeparateWays {
-            cut: EdgeSet(0b11000),
-            ..right.clone()
-        };
-        assert!(found.is_of(&plan));
-        // What is no way.
+        wrong(&[&one, &other], 0b100001);
+        wrong(&[&one, &other], 1 << 63 | 1);
+        // What is no way, wherever it stands.
         for no_way in [
             way(&[], &[]),
             way(&[], &[0]),
@@ -425,15 +444,32 @@ mod tests {
             way(&[0, 2, 2, 3], &[0, 1, 2, 1, 3]),
         ] {
             wrong(&[&no_way, &other], 0b11);
+            wrong(&[&other, &no_way], 0b11);
             assert!(!no_way.is_of(&plan), "{no_way:?}");
         }
         // Nothing at all, where there is a way; that is right where there is none.
         wrong(&[], 0);
-        let none = SeparateWays {
+        let none = Found {
             ways: vec![],
             cut: EdgeSet(0),
         };
-        assert!(none.is_of(&hall(2, 1, &[])));
-        assert_eq!(separate(&hall(3, 2, &[(0, 1), (2, 2)])), none);
+        let apart = hall(3, 2, &[(0, 1), (2, 2)]);
+        assert_eq!(none.shown(&apart), apart.separate_ways());
+        assert!(separate(&apart).ways().is_empty() && separate(&apart).cut().is_empty());
+    }
+
+    /// A set of as many cables as there are ways, but no cut, or with a cable that the plan has not, shows
+    /// nothing.
+    #[test]
+    fn the_verdict_on_the_cut_is_asked() {
+        let row = hall(3, 2, &[(0, 1), (1, 2), (0, 0)]);
+        let the_way = way(&[0, 1], &[0, 1, 2]);
+        for (cut, right) in [(0b1, true), (0b10, true), (0b100, false), (0b1000, false)] {
+            let found = Found {
+                ways: vec![the_way.clone()],
+                cut: EdgeSet(cut),
+            };
+            assert_eq!(found.shown(&row).is_ok(), right, "{cut:#b}");
+        }
     }
 }

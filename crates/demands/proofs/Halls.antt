@@ -31,7 +31,7 @@ use Rattle.graph.proofs.Reach.{in-reach-single}
 use Rattle.graph.proofs.Cuts.{cutTest-iff, mincutTest-iff}
 use Rattle.graph.proofs.Relevant.{in-relevantNodes, in-relevantEdges}
 use Rattle.menger.specs.Separate.{Fewest}
-use Rattle.menger.specs.Tests.{reaches, minpathTest, apartTest, fewestTest}
+use Rattle.menger.specs.Tests.{minpathTest, apartTest, fewestTest}
 use Rattle.menger.proofs.Menger.{fewest-most}
 use Rattle.menger.proofs.Tests.{apartTest-apart, fewestTest-fewest}
 use Rattle.listing.specs.List.{mincuts, sourceSides}
@@ -101,7 +101,7 @@ hall-right h t =
 
 -- Every hall of the table passes the test.
 halls-pass : T (every hallTest halls)
-unfolding has insert _∖_ size subsets countIf tabulate tally once pairsOf widthOf widthTable _when_ _then_ sizeFault outsideFault bare withEdge numberFault sizeRefusal terminalsRefusal edgeRefusal endRefusal sizeStep terminalsStep edgeStep lengthStep lengthSize ifTaken edges decodeUpTo only membersFrom addIf across roundOver rounds reachOf severed every cutTest allNeeded mincutTest chosen twoIn edgesWithin past pastAll relevantNodes relevantEdges sourceSideOf passing mincuts reaches minpathTest apartTest fewestTest digits decimal spaced numbers lineUpTo wordLine rowLines listText listReport reportOf bridge barCable spur hangingTriangle noCable twoCables inARow exchanged halls same judgedTest hallTests hallTest
+unfolding has insert _∖_ size subsets countIf tabulate tally once pairsOf widthOf widthTable _when_ _then_ sizeFault outsideFault bare withEdge numberFault sizeRefusal terminalsRefusal edgeRefusal endRefusal sizeStep terminalsStep edgeStep lengthStep lengthSize ifTaken edges decodeUpTo only membersFrom addIf across roundOver rounds reachOf severed every cutTest allNeeded mincutTest chosen twoIn edgesWithin past pastAll relevantNodes relevantEdges sourceSideOf passing mincuts minpathTest apartTest fewestTest digits decimal spaced numbers lineUpTo wordLine rowLines listText listReport reportOf bridge barCable spur hangingTriangle noCable twoCables inARow exchanged halls same judgedTest hallTests hallTest
 halls-pass = tt
 
 -- So what it says of each hall is established.

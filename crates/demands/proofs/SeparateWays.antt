@@ -12,7 +12,8 @@ use Rattle.graph.specs.Cuts.{Cut, Mincut}
 use Rattle.graph.specs.Lists.{CompleteList}
 use Rattle.graph.proofs.Sound.{Sound, accepted-sound}
 use Rattle.menger.specs.Separate.{Apart, Most}
-use Rattle.menger.proofs.Menger.{apart-cut, apart-most, fewest-mincut, menger, fewest-most, most-none}
+use Rattle.menger.proofs.Bounds.{apart-distinct, apart-cut, apart-most, fewest-mincut, most-none}
+use Rattle.menger.proofs.Menger.{menger, fewest-most}
 use Rattle.listing.specs.List.{listedBy, cutRowsAfter}
 use Rattle.listing.specs.Trimmed.{trimmedListedBy, trimmedCutRows}
 use Rattle.listing.proofs.Call.{complete-call}
@@ -29,7 +30,7 @@ matched N S n cuts sides list =
       fewest = fewest-most N S n cuts sides list k .1 (narrow .most);
       most = narrow .most;
       same = fewest-most N S n cuts sides list;
-      no-route = most-none N S k (narrow .most);
+      no-route = most-none N k (narrow .most);
     }
 
 -- A list call that gave the refusal 0 was made on an accepted record, and left the complete list.
@@ -55,5 +56,6 @@ separate-ways = record {
   lists = lists;
   lists-bytes = λ s e. lists (decodeOf s .network) (read-stored s e);
   trimmed = trimmed;
+  different = λ N stored ok. apart-distinct N (accepted-sound N stored ok .differ);
   shown = shown;
 }

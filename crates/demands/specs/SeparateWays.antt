@@ -9,6 +9,7 @@ use mathlib.Core.Logic.{_↔_}
 use mathlib.Core.Path.{_≡_}
 use Prim.Native.Nat.{ℕ, _≤_}
 use lib.ListN.{length}
+use Rattle.sequences.specs.Distinct.{Distinct}
 use Rattle.bitset.specs.Members.{size}
 use Rattle.network.specs.declared.Network.{Network}
 use Rattle.network.specs.Record.{Stored, faultOf}
@@ -36,7 +37,9 @@ pub record SeparateWays : Type 0 where
   -- And of a plan that was trimmed already, by the call that lists it as such.
   pub trimmed : (N : Network) → Stored N → (cuts sides : List ℕ) → trimmedListedBy N cuts sides .refusal ≡ 0
       → Matched N (trimmedListedBy N cuts sides .count) (trimmedCutRows N cuts sides)
+  -- No route stands among separate ways twice.
+  pub different : (N : Network) → Stored N → faultOf N ≡ 0 → (l : List ℕ) → Apart N l → Distinct l
   -- However long the list is: separate ways and a cut with as many cables show that no more ways are apart, that no cut has fewer cables,
-  -- and so that this one is a row of the list.
+  -- and that this one is minimal, and so a row of every complete list.
   pub shown : (N : Network) → Stored N → faultOf N ≡ 0 → (l : List ℕ) → Apart N l → (c : ℕ) → Cut N c → length l ≡ size 64 c
       → Most N (length l) × Mincut N c × ((d : ℕ) → Cut N d → size 64 c ≤ size 64 d)

@@ -21,7 +21,7 @@ use Rattle.network.specs.declared.Network.{Network}
 use Rattle.graph.specs.Paths.{Joins, Hop, Leads, Minpath, Connected, SameMinpaths}
 use Rattle.graph.specs.Cuts.{only, without, Silenced, Cut, Mincut, HoldsMincut}
 use Rattle.graph.specs.Reach.{reachOf, Bounded}
-use Rattle.graph.specs.CutTests.{severed, cutTest, allNeeded, mincutTest, Settled}
+use Rattle.graph.specs.CutTests.{reaches, severed, cutTest, allNeeded, mincutTest, Settled}
 use Rattle.graph.proofs.Minpaths.{minpath-present, walk-minpath, minpath-only, connected-minpath, minpath-least}
 use Rattle.graph.proofs.Reach.{bounded-only, in-reach-single}
 use Rattle.bitset.specs.Families.{Holds, Transversal, Blocker}
@@ -100,7 +100,7 @@ module _ (N : Network) where
 
   module _ (B : Bounded N) where
     -- A set of present edges holds a minpath exactly if over it the source reaches the sink.
-    pub minpath-reach : (h : ℕ) → h ⊆ present N → (N .sink ∈ reachOf (only N h) (2 ^ N .source)) ↔ Holds (Minpath N) h
+    pub minpath-reach : (h : ℕ) → h ⊆ present N → T (reaches N h) ↔ Holds (Minpath N) h
     minpath-reach h l = Iff·trans (in-reach-single (only N h) (bounded-only N B h l) (N .source) (N .sink)) (connected-minpath N h l)
 
     -- Whether a set holds a minpath is decided.

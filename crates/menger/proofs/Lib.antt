@@ -1,4 +1,5 @@
 -- Menger's theorem, a notion to a file, in reading order.
+pub mod Bounds
 pub mod Ways
 pub mod Flows
 pub mod Augmenting

@@ -1,5 +1,5 @@
 -- A flow of k units is peeled into k minpaths, no two of which share an edge.
--- Assumes what the record test says.
+-- Assumes that the edges have numbers below 64 and ends below the node count.
 --
 --   Back N F e u v       the edge e carries from v to u, two different nodes
 --   Peeled N k F         k minpaths, no two of which share an edge, over edges that F does not leave idle

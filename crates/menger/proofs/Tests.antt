@@ -27,15 +27,15 @@ use Rattle.network.specs.Record.{present}
 use Rattle.graph.specs.Paths.{Minpath}
 use Rattle.graph.specs.Cuts.{Mincut}
 use Rattle.graph.specs.Reach.{Bounded}
+use Rattle.graph.specs.CutTests.{reaches}
 use Rattle.graph.proofs.Minpaths.{minpath-present}
 use Rattle.graph.proofs.Cuts.{minpath-reach, meets-mincuts, minpath-blocker}
 use Rattle.menger.specs.Separate.{Apart, Fewest}
-use Rattle.menger.specs.Tests.{reaches, minpathTest, apartTest, fewestTest}
+use Rattle.menger.specs.Tests.{minpathTest, apartTest, fewestTest}
 
 module _ (N : Network) (B : Bounded N) where
   -- The source reaches the sink over a set of present edges exactly if the set meets every mincut.
   reaches-transversal : (h : ℕ) → h ⊆ present N → T (reaches N h) ↔ Transversal (Mincut N) h
-  unfolding reaches
   reaches-transversal h l = Iff·trans (minpath-reach N B h l) (Iff·symm (meets-mincuts N B h))
 
   -- The test of a minpath is right.

@@ -13,7 +13,7 @@ use Rattle.bitset.specs.Families.{Disjoint}
 use Rattle.network.specs.declared.Network.{Network}
 use Rattle.graph.specs.Paths.{Minpath}
 
--- Where source and sink differ a minpath has an edge, so that none stands in such a list twice.
+-- In an accepted record a minpath has an edge, so that none stands in such a list twice (`different`, demands/specs/SeparateWays).
 pub record Apart (N : Network) (l : List ℕ) : Type 0 where
   pub minpaths : (r : ℕ) → List·Memᴰ r l → Minpath N r
   pub disjoint : Pairwise Disjoint l

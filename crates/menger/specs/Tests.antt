@@ -1,7 +1,6 @@
 -- Minpaths that share no edge, and the fewest edges of a list of rows, as they are computed for a given list.
 -- Computed: explained by apartTest-apart, fewestTest-fewest (menger/proofs/Tests).
 --
---   reaches N h          over the edges of h the source reaches the sink
 --   minpathTest N r      whether r is a minpath: over it the source reaches the sink, and without any of its members it does not
 --                        [computed: minpathTest-iff (menger/proofs/Tests)]
 --   apartTest N l        whether the sets of l are minpaths no two of which share an edge
@@ -13,14 +12,10 @@ use lib.Bits.{bitAnd}
 use lib.Dec.{eqb, ltb}
 use Rattle.sequences.specs.Counts.{countIf}
 use Rattle.sequences.specs.Words.{every}
-use Rattle.bitset.specs.Members.{has, _∖_, members, size}
+use Rattle.bitset.specs.Members.{_∖_, members, size}
 use Rattle.network.specs.declared.Network.{Network}
 use Rattle.network.specs.Record.{present}
-use Rattle.graph.specs.Cuts.{only}
-use Rattle.graph.specs.Reach.{reachOf}
-
-unfoldable pub reaches : Network → ℕ → Bool
-reaches N h = has (reachOf (only N h) (2 ^ N .source)) (N .sink)
+use Rattle.graph.specs.CutTests.{reaches}
 
 unfoldable pub minpathTest : Network → ℕ → Bool
 minpathTest N r = eqb (bitAnd r (present N)) r && (reaches N r && every (λ e. not (reaches N (r ∖ 2 ^ e))) (members 64 r))
