@@ -98,14 +98,15 @@ pub transversal-same : (F G : ℕ → Type 0) → ((r : ℕ) → F r ↔ G r) �
 transversal-same F G same t = (λ v r f. v r (same r .1 f), λ v r f. v r (same r .0 f))
 
 -- What has the same meaning has the same least sets.
-least-into : (P Q : ℕ → Type 0) → ((t : ℕ) → P t ↔ Q t) → (t : ℕ) → Least P t → Least Q t
-least-into P Q same t l = record { has = same t .0 (l .has); least = λ d h q. l .least d h (same d .1 q) }
+pub least-same : (P Q : ℕ → Type 0) → ((t : ℕ) → P t ↔ Q t) → (t : ℕ) → Least P t ↔ Least Q t
+least-same P Q same t = (
+  λ l. record { has = same t .0 (l .has); least = λ d h q. l .least d h (same d .1 q) },
+  λ l. record { has = same t .1 (l .has); least = λ d h p. l .least d h (same d .0 p) },
+)
 
 -- Families with the same sets have the same blocker.
 pub blocker-same : (F G : ℕ → Type 0) → ((r : ℕ) → F r ↔ G r) → (t : ℕ) → Blocker F t ↔ Blocker G t
-blocker-same F G same t =
-    let v = transversal-same F G same in
-    (least-into (Transversal F) (Transversal G) v t, least-into (Transversal G) (Transversal F) (λ d. Iff·symm (v d)) t)
+blocker-same F G same = least-same (Transversal F) (Transversal G) (transversal-same F G same)
 
 -- A set is a transversal exactly if the rest of the ground set holds no set of the family.
 pub transversal-rest : (F : ℕ → Type 0) (g : ℕ) → ((r : ℕ) → F r → r ⊆ g) → (t : ℕ) → Transversal F t ↔ (Holds F (g ∖ t) → ⊥)

@@ -4,12 +4,12 @@
 --   CompleteList N n cuts sides  the first n rows are the mincuts of N, rising, each beside its source side (demand 2)
 --   SameList n cuts m cuts′      n rows and m rows have equal cuts at equal places, and are equally many (demand 3's equal lists)
 --   Outnumber N n                the mincuts of N are more than n: so many different ones can be named (demand 1's "too many cuts")
-use mathlib.Core.List.{List, List·Memᴰ}
+use mathlib.Core.List.{List}
 use mathlib.Core.Logic.{_↔_}
 use mathlib.Core.Path.{_≡_}
 use Prim.Native.Nat.{ℕ, _<_}
-use lib.ListN.{length, getD}
-use Rattle.sequences.specs.Distinct.{Distinct}
+use lib.ListN.{getD}
+use Rattle.sequences.specs.Distinct.{More}
 use Rattle.bitset.specs.Members.{_∈_}
 use Rattle.network.specs.declared.Network.{Network}
 use Rattle.graph.specs.Cuts.{Mincut, OnSourceSide}
@@ -24,8 +24,5 @@ pub record SameList (n : ℕ) (cuts : List ℕ) (m : ℕ) (cuts′ : List ℕ) :
   pub counts : n ≡ m
   pub rows : (i : ℕ) → i < n → getD cuts i 0 ≡ getD cuts′ i 0
 
-pub record Outnumber (N : Network) (n : ℕ) : Type 0 where
-  pub named : List ℕ
-  pub more : n < length named
-  pub distinct : Distinct named
-  pub mincuts : (c : ℕ) → List·Memᴰ c named → Mincut N c
+abbrev pub Outnumber : Network → ℕ → Type 0
+Outnumber N = More (Mincut N)

@@ -109,7 +109,7 @@ module _ (N : Network) (cuts sides : List ℕ) where
           q,
           onto-back (cutsOf l) cuts n count-cuts sorted (done .cuts-length),
           onto-back (sidesOf l) sides n count-sides sorted′ (done .sides-length),
-          sorted-mincuts N sound sorted sorted′ done,
+          sorted-mincuts N sound (sidesOf l) sorted sorted′ (rows-paired l) done,
           sorted-sides N sound sorted sorted′ done,
           count,
           ← mincuts-count N sound,

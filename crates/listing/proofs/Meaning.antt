@@ -8,12 +8,14 @@ use native.Mathlib.Nat.{lt-trans, lt-of-lt-of-le}
 use lib.ListN.{length, getD, length-map}
 use Rattle.sequences.proofs.Words.{getD-onto}
 use Rattle.sequences.specs.Words.{onto}
-use Rattle.sequences.proofs.Places.{mem-place, getD-map}
-use Rattle.sequences.proofs.Rising.{rising-places}
-use Rattle.sequences.proofs.Distinct.{rising-distinct, distinct-at-most}
+use Rattle.sequences.specs.Rising.{RisingRows}
+use Rattle.sequences.proofs.Places.{getD-map}
+use Rattle.sequences.proofs.Rising.{rising-rows, rows-onto}
+use Rattle.sequences.proofs.Distinct.{rising-distinct, more-iff}
 use Rattle.network.specs.declared.Network.{Network}
 use Rattle.network.specs.Record.{Stored, faultOf}
 use Rattle.graph.specs.Reach.{Bounded}
+use Rattle.graph.specs.Cuts.{Mincut}
 use Rattle.graph.specs.Lists.{CompleteList, Outnumber}
 use Rattle.graph.specs.Relevant.{sourceSideOf}
 use Rattle.graph.proofs.Sound.{Sound, accepted-sound}
@@ -26,13 +28,17 @@ use Rattle.listing.proofs.Call.{Answered, answer-refusal, complete-call
 
 -- ---- the complete list
 
--- The computed list is complete, each mincut beside its source side.
+-- The computed list has the mincuts in its rows, and so it is wherever it is written onto rows.
+mincuts-rows : (N : Network) → Bounded N → RisingRows (Mincut N) (length (mincuts N)) (mincuts N)
+mincuts-rows N B = let lists = mincuts-lists N B in rising-rows (Mincut N) (mincuts N) (lists .rising) (lists .members)
+
+-- It is complete, each mincut beside its source side.
 pub mincuts-complete : (N : Network) → Sound N → CompleteList N (length (mincuts N)) (mincuts N) (sourceSides N)
 mincuts-complete N S =
     let l : List ℕ = mincuts N in
-    let lists = mincuts-lists N (S .bounded) in record {
-      rising = rising-places l (lists .rising);
-      members = λ c. Iff·trans (Iff·symm (mem-place l c)) (lists .members c);
+    let rows = mincuts-rows N (S .bounded) in record {
+      rising = rows .rising;
+      members = rows .members;
       beside = λ i v h. rw (getD-map (sourceSideOf N) l i h) (in-sourceSideOf N S (getD l i 0) v);
     }
 
@@ -40,30 +46,19 @@ mincuts-complete N S =
 complete-onto : (N : Network) (l k cuts sides : List ℕ) → length k ≡ length l → CompleteList N (length l) l k
     → CompleteList N (length l) (onto l cuts) (onto k sides)
 complete-onto N l k cuts sides paired whole =
-    let cut : (i : ℕ) → i < length l → getD (onto l cuts) i 0 ≡ getD l i 0 = getD-onto l cuts in record {
-      rising = λ i j h m. rw (cut i (lt-trans h m), cut j m) (whole .rising i j h m);
-      members = λ c. Iff·trans (
-        λ p. (p .0, p .1, sym (cut (p .0) (p .1)) ∙ p .2),
-        λ p. (p .0, p .1, cut (p .0) (p .1) ∙ p .2),
-      )
-          (whole .members c);
-      beside = λ i v h. rw (getD-onto k sides i (rw paired h), cut i h) (whole .beside i v h);
+    let rows = rows-onto (Mincut N) l cuts (record { rising = whole .rising; members = whole .members }) in record {
+      rising = rows .rising;
+      members = rows .members;
+      beside = λ i v h. rw (getD-onto k sides i (rw paired h), getD-onto l cuts i h) (whole .beside i v h);
     }
 
 -- ---- too many cuts
 
 -- The mincuts outnumber n exactly if the computed list is longer.
 pub outnumber-iff : (N : Network) → Bounded N → (n : ℕ) → (n < length (mincuts N)) ↔ Outnumber N n
-outnumber-iff N B n =
-    let lists = mincuts-lists N B in (
-      λ h. record {
-        named = mincuts N;
-        more = h;
-        distinct = rising-distinct (mincuts N) (lists .rising);
-        mincuts = λ c. lists .members c .0;
-      },
-      λ o. lt-of-lt-of-le (o .more) (distinct-at-most (o .named) (mincuts N) (o .distinct) (λ c m. lists .members c .1 (o .mincuts c m))),
-    )
+outnumber-iff N B =
+    let lists = mincuts-lists N B in
+    more-iff (Mincut N) (mincuts N) (rising-distinct (mincuts N) (lists .rising)) (lists .members)
 
 -- ---- the call
 

@@ -58,11 +58,12 @@ module _ (N : Network) (S : Sound N) where
   mincuts-count =
       ∥∥₁-elim mincuts-perm (ℕ-set (length (mincuts N)) (length (cutsOf (rows N)))) perm-length ∙ length-map (rows N) (λ (r : Row). r .0)
 
-  module _ (cuts sides : List ℕ) (s : Sorted (cutsOf (rows N)) (sidesOf (rows N)) cuts sides) where
-    -- The sorted cuts are the complete list.
-    pub sorted-mincuts : cuts ≡ mincuts N
-    sorted-mincuts = sorted-unique (cutsOf (rows N)) (sidesOf (rows N)) cuts sides (rows-paired (rows N)) s cuts-nodup (mincuts N) (complete .rising) list-cuts
+  -- The cuts of the rows, sorted with whatever stands beside them, are the complete list.
+  pub sorted-mincuts : (beside cuts sides : List ℕ) → length (cutsOf (rows N)) ≡ length beside → Sorted (cutsOf (rows N)) beside cuts sides → cuts ≡ mincuts N
+  sorted-mincuts beside cuts sides paired s =
+      sorted-unique (cutsOf (rows N)) beside cuts sides paired s cuts-nodup (mincuts N) (complete .rising) list-cuts
 
+  module _ (cuts sides : List ℕ) (s : Sorted (cutsOf (rows N)) (sidesOf (rows N)) cuts sides) where
     -- Beside each stands its source side.
     sorted-side : (i : ℕ) → i < length cuts → getD sides i 0 ≡ sourceSideOf N (getD cuts i 0)
     sorted-side i h =
@@ -73,6 +74,6 @@ module _ (N : Network) (S : Sound N) where
     pub sorted-sides : sides ≡ sourceSides N
     sorted-sides =
         let paired : length sides ≡ length cuts = s .sides-length ∙ sym (rows-paired (rows N)) ∙ sym (s .cuts-length) in
-        rw (← sorted-mincuts) (ext-getD 0 sides (map (sourceSideOf N) cuts) (paired ∙ sym (length-map cuts (sourceSideOf N))) (λ i h.
+        rw (← sorted-mincuts (sidesOf (rows N)) cuts sides (rows-paired (rows N)) s) (ext-getD 0 sides (map (sourceSideOf N) cuts) (paired ∙ sym (length-map cuts (sourceSideOf N))) (λ i h.
         let k : i < length cuts = rw paired at h in
         sorted-side i k ∙ sym (getD-map (sourceSideOf N) cuts i k)))

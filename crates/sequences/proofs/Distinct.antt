@@ -5,13 +5,14 @@ use mathlib.Core.Bool.{Bool, true, false, not, true≢false}
 use mathlib.Core.HLevel.{⊥-prop}
 use mathlib.Core.List.{List, [], _∷_, _++_, map, List·Nodup, nodup-nil, nodup-cons, rel-of-pairwise-cons, Pairwise·of-cons, List·Memᴰ, List·Memᴰ·head, List·Memᴰ·tail, List·Memᴰ·not-nil, List·Memᴰ·cases-cons, List·Memᴰ·append-cases, Memᴰ·append-left, Memᴰ·append-right, Memᴰ·of-map, Memᴰ·cast}
 use mathlib.Core.Logic.{inl, inr, _↔_, ∥∥₁-elim}
-use Prim.Native.Nat.{ℕ, suc, _≤_, zero-le}
+use Prim.Native.Nat.{ℕ, suc, _≤_, _<_, zero-le}
+use native.Mathlib.Nat.{lt-of-lt-of-le}
 use native.Mathlib.Omega.{arith}
 use borrow.Author.Tests.{eqb-true}
 use denote.Floats.{passes}
 use lib.Dec.{eqb}
 use lib.ListN.{length}
-use Rattle.sequences.specs.Distinct.{Distinct, once}
+use Rattle.sequences.specs.Distinct.{Distinct, More, once}
 use Rattle.sequences.specs.Rising.{Rising}
 use Rattle.sequences.specs.Words.{every}
 use Rattle.sequences.proofs.Tests.{T-not, T-eqb}
@@ -94,6 +95,13 @@ distinct-at-most (x ∷ l) m d within =
 -- Two lists without repeats that have the same members are equally long.
 pub distinct-length : (l m : List ℕ) → Distinct l → Distinct m → ((x : ℕ) → List·Memᴰ x l ↔ List·Memᴰ x m) → length l ≡ length m
 distinct-length l m d e same = omega (arith, distinct-at-most l m d (λ x. same x .0), distinct-at-most m l e (λ x. same x .1))
+
+-- More than n numbers have P exactly if a list of them, each once, is longer.
+pub more-iff : (P : ℕ → Type 0) (l : List ℕ) → Distinct l → ((x : ℕ) → List·Memᴰ x l ↔ P x) → (n : ℕ) → (n < length l) ↔ More P n
+more-iff P l d same n = (
+  λ h. record { named = l; more = h; distinct = d; each = λ x. same x .0 },
+  λ o. lt-of-lt-of-le (o .more) (distinct-at-most (o .named) l (o .distinct) (λ x m. same x .1 (o .each x m))),
+)
 
 -- ---- each element once
 
