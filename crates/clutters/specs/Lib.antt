@@ -1,0 +1,3 @@
+-- The definitions that the contracts of `clutters` cite.
+pub mod Clutters
+pub mod Steps

@@ -1,0 +1,2 @@
+-- Sets as rows.
+pub mod Beside

@@ -1,0 +1,2 @@
+-- The definition that the contracts of `ordering` cite.
+pub mod Ascended
