@@ -26,6 +26,8 @@
  * Every function gives the number of a refusal, CUTLIST_ACCEPTED if there is none. Whatever a
  * record's fields hold, the call is safe: each call tests the record first, as cutlist_fault does. Out
  * parameters are written on refusal too, as said beside each; lent bytes and rows are untouched then.
+ * The work rows of cutlist_list_any and cutlist_list_all are the one exception: after a refusal with
+ * 12 or 20 all of them are 0.
  *
  * No pointer may be NULL, not even beside a length of 0, and each must be aligned as its type asks,
  * on x86-64 to 8 bytes for uint64_t and size_t, to 4 for uint32_t and to 2 for uint16_t. A length
@@ -39,10 +41,10 @@
  * and from signal handlers, as long as no call is given memory that another one writes.
  *
  * Each call takes at most CUTLIST_STACK_BYTES of stack; cutlist_list and cutlist_list_trimmed take
- * the most, cutlist_widths less than 3 KiB, and every other call less than 2 KiB:
- * rust/tests/stack.rs measures it, on halls where the list goes as deep as it can. Of the list's
- * stack 32 KiB hold rows that it keeps while it counts them. The list program makes all that it
- * prints on its stack, and needs 896 KiB.
+ * the most, cutlist_list_any and cutlist_list_all less than 26 KiB, cutlist_widths less than 3 KiB,
+ * and every other call less than 2 KiB: rust/tests/stack.rs measures it, on halls where the lists go
+ * as deep as they can. Of the stack of the first two 32 KiB hold rows that they keep while they count
+ * them. The list program makes all that it prints on its stack, and needs 896 KiB.
  */
 #ifndef CUTLIST_H
 #define CUTLIST_H
@@ -83,6 +85,9 @@ extern "C" {
 /* The most steps of a drill. */
 #define CUTLIST_MOST_STEPS 65535
 
+/* The most rooms of one list. */
+#define CUTLIST_MOST_ROOMS 8
+
 /* Bytes of stack that suffice for every call. */
 #define CUTLIST_STACK_BYTES 61440
 
@@ -115,6 +120,9 @@ enum cutlist_refusal {
     /* By the one who set the drill. */
     CUTLIST_TOO_MANY_STEPS = 25,        /* more than 65,535 steps */
 
+    /* By the one who chose the rooms. */
+    CUTLIST_BAD_ROOMS = 19,             /* no room, more than 8, a room twice, the server, or a point outside the plan */
+
     /* By the program that calls. */
     CUTLIST_ROWS_DIFFER = 11,           /* cut rows and side rows differ in number */
     CUTLIST_TOO_MANY_CUTS = 12,         /* more minimal cuts than rows lent */
@@ -122,6 +130,7 @@ enum cutlist_refusal {
     CUTLIST_EDGE_NOT_PRESENT = 14,      /* a given set or row holds a cable not present */
     CUTLIST_BUFFER_TOO_SHORT = 15,      /* the plan needs more bytes than were lent */
     CUTLIST_TOO_MANY_EVENTS = 18,       /* more whole events than bytes lent */
+    CUTLIST_WORK_TOO_SHORT = 20,        /* a step for several rooms needs more work rows than were lent */
     CUTLIST_NOT_TRIMMED = 26            /* some point or present cable is not useful */
 };
 
@@ -283,6 +292,78 @@ uint8_t cutlist_list_trimmed(
     const uint16_t metres[CUTLIST_SLOTS],
     uint64_t *cuts, size_t cuts_length,
     uint64_t *sides, size_t sides_length,
+    size_t *count);
+
+/*
+ * Lists the minimal sets of cables that silence at least one of several rooms, in rising order of
+ * their numbers, each once. A set silences a room if no route leads there over the other cables; it is
+ * minimal here if no smaller part of it silences any of the rooms. So the rooms' own lists are joined,
+ * and every set that holds another one is dropped.
+ *
+ * Every point but the server can be a room, and the rooms may stand in any order. The plan's own
+ * room, the sink, counts only if it is among them, and is tested with the plan all the same. One room
+ * alone has the cuts that cutlist_list gives with that point as room. If one of the rooms has no
+ * route, nothing need be cut to silence it, and the list is one row: 0.
+ *
+ * The rooms are taken in rising order of point, each in a step. The first step needs as many work rows
+ * as the first room's own list has. With p sets in the list for the rooms so far and q in the next
+ * room's own list, the next step needs p + q. This count decides, whatever the call makes of its work
+ * rows. No list has more rows than its last step needs, so that as many rows for cuts as work rows
+ * always suffice.
+ *
+ * Refusals, in this order: those of cutlist_fault; 19 for no room, more than CUTLIST_MOST_ROOMS, a room
+ * twice, the server, or a point outside the plan; 20 if some step needs more work rows than are lent;
+ * 12 if the list has more rows than are lent for cuts.
+ *
+ *   rooms, rooms_length  the rooms, each the number of a point
+ *   cuts, cuts_length    out: the lent rows for the list; rows past the count hold what they held,
+ *                        and on refusal all of them do
+ *   work, work_length    out: the lent work rows, which may hold anything; afterwards all of them are
+ *                        0, used or not, on 12 and on 20 too; on any other refusal they are untouched
+ *   count                out: how many rows were listed, 0 on refusal
+ */
+uint8_t cutlist_list_any(
+    uint8_t nodes,
+    uint8_t source,
+    uint8_t sink,
+    uint64_t present,
+    const uint8_t first[CUTLIST_SLOTS],
+    const uint8_t second[CUTLIST_SLOTS],
+    const uint16_t metres[CUTLIST_SLOTS],
+    const uint8_t *rooms, size_t rooms_length,
+    uint64_t *cuts, size_t cuts_length,
+    uint64_t *work, size_t work_length,
+    size_t *count);
+
+/*
+ * Lists the minimal sets of cables that silence every one of several rooms, as cutlist_list_any lists
+ * those that silence at least one. So a set from each room's own list is united with one from each
+ * other's, in every way, and every set that holds another one is dropped. One room alone has its own
+ * list here too. A room without a route is silent already and does not matter; if none has a route,
+ * the list is one row: 0.
+ *
+ * With p sets in the list for the rooms so far and q in the next room's own list, the next step needs
+ * p + q + p * q work rows, even where a size_t cannot hold as many. In all else, the refusals and what
+ * is written in each case, this call is as cutlist_list_any.
+ *
+ *   rooms, rooms_length  the rooms, each the number of a point
+ *   cuts, cuts_length    out: the lent rows for the list; rows past the count hold what they held,
+ *                        and on refusal all of them do
+ *   work, work_length    out: the lent work rows, which may hold anything; afterwards all of them are
+ *                        0, used or not, on 12 and on 20 too; on any other refusal they are untouched
+ *   count                out: how many rows were listed, 0 on refusal
+ */
+uint8_t cutlist_list_all(
+    uint8_t nodes,
+    uint8_t source,
+    uint8_t sink,
+    uint64_t present,
+    const uint8_t first[CUTLIST_SLOTS],
+    const uint8_t second[CUTLIST_SLOTS],
+    const uint16_t metres[CUTLIST_SLOTS],
+    const uint8_t *rooms, size_t rooms_length,
+    uint64_t *cuts, size_t cuts_length,
+    uint64_t *work, size_t work_length,
     size_t *count);
 
 /*
@@ -505,6 +586,30 @@ static inline uint8_t cutlist_plan_list_trimmed(
     size_t *count)
 {
     return cutlist_list_trimmed(CUTLIST_FIELDS(plan), cuts, cuts_length, sides, sides_length, count);
+}
+
+/* Lists the minimal sets that silence at least one of several rooms, as cutlist_list_any does. */
+static inline uint8_t cutlist_plan_list_any(
+    const struct cutlist_plan *plan,
+    const uint8_t *rooms, size_t rooms_length,
+    uint64_t *cuts, size_t cuts_length,
+    uint64_t *work, size_t work_length,
+    size_t *count)
+{
+    return cutlist_list_any(
+        CUTLIST_FIELDS(plan), rooms, rooms_length, cuts, cuts_length, work, work_length, count);
+}
+
+/* Lists the minimal sets that silence every one of several rooms, as cutlist_list_all does. */
+static inline uint8_t cutlist_plan_list_all(
+    const struct cutlist_plan *plan,
+    const uint8_t *rooms, size_t rooms_length,
+    uint64_t *cuts, size_t cuts_length,
+    uint64_t *work, size_t work_length,
+    size_t *count)
+{
+    return cutlist_list_all(
+        CUTLIST_FIELDS(plan), rooms, rooms_length, cuts, cuts_length, work, work_length, count);
 }
 
 /* Plays back a link log, as cutlist_replay does. */

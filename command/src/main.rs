@@ -12,6 +12,7 @@ mod metres;
 mod output;
 mod program;
 mod replay;
+mod rooms;
 mod schedule;
 mod status;
 mod trimmed;
@@ -29,6 +30,7 @@ use cutlist::EdgeSet;
 use drill::Drills;
 use input::STANDARD;
 use output::{print, say};
+use rooms::Rooms;
 use status::Status;
 
 /// What `--help` prints.
@@ -46,6 +48,8 @@ enum Asked {
     Widths(Vec<OsString>),
     /// Separate ways of these files, as many as there can be.
     Ways(Vec<OsString>),
+    /// The minimal sets of cables that silence these rooms of a file's plan.
+    Rooms(OsString, Rooms),
     /// The metres of these cables of a file, or of all that its plan has.
     Metres(OsString, Option<EdgeSet>),
     /// What a log, the second file, did to the room of a plan, the first.
@@ -91,6 +95,7 @@ fn run() -> io::Result<Status> {
         Ok(Asked::Trimmed(files)) => trimmed::run(&files),
         Ok(Asked::Widths(files)) => widths::run(&files),
         Ok(Asked::Ways(files)) => ways::run(&files),
+        Ok(Asked::Rooms(plan, rooms)) => rooms::run(&plan, &rooms),
         Ok(Asked::Metres(file, edges)) => metres::run(&file, edges),
         Ok(Asked::Replay(plan, log)) => replay::run(&plan, &log),
         Ok(Asked::Works(plan, schedule)) => works::run(&plan, &schedule),
@@ -99,8 +104,8 @@ fn run() -> io::Result<Status> {
 }
 
 /// The words that say what to do.
-const WORDS: [&str; 7] = [
-    "trimmed", "widths", "ways", "metres", "replay", "works", "drill",
+const WORDS: [&str; 8] = [
+    "trimmed", "widths", "ways", "rooms", "metres", "replay", "works", "drill",
 ];
 
 /// What the arguments ask for, or what is wrong with them. A word that says what to do stands first:
@@ -124,6 +129,14 @@ fn asked(arguments: impl Iterator<Item = OsString>) -> Result<Asked, String> {
             "{word} needs a {what}; a file of that name is listed as ./{word}"
         ))
     };
+    if word == "rooms" {
+        return match &words[..] {
+            [which, plan, named @ ..] if !named.is_empty() => {
+                Ok(Asked::Rooms(plan.clone(), rooms::rooms(which, named)?))
+            }
+            _ => needs("PLAN and a ROOM behind any or all"),
+        };
+    }
     if word == "replay" {
         return match &files(words)?[..] {
             [plan, log] => Ok(Asked::Replay(plan.clone(), log.clone())),

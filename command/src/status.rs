@@ -8,7 +8,7 @@ use std::process::ExitCode;
 pub enum Status {
     /// All that was asked for is printed.
     Done = 0,
-    /// A plan, a log, a schedule or a drill is refused.
+    /// A plan, a choice of rooms, a log, a schedule or a drill is refused.
     Refused = 1,
     /// A wrong use, or an input that cannot be read or is malformed.
     Unread = 2,

@@ -8,6 +8,7 @@ use std::str::FromStr;
 use crate::plan::{Verdict, LONGEST, WEEK};
 use crate::refusal::Refusal;
 use crate::replay::{DOWN, UP};
+use crate::rooms::MOST_ROOMS;
 use crate::sets::NodeSet;
 use crate::simulation::MOST_STEPS;
 use crate::sys;
@@ -20,6 +21,7 @@ const MAINTENANCE: &str = include_str!("../../crates/maintenance/src/lib.rt");
 const WINDOWS: &str = include_str!("../../crates/windows/src/lib.rt");
 const WINDOWS_SPECIFIED: &str = include_str!("../../crates/windows/specs/Windows.antt");
 const SIMULATION: &str = include_str!("../../crates/simulation/src/lib.rt");
+const ROOMS: &str = include_str!("../../crates/rooms/src/lib.rt");
 const REFERENCE: &str = include_str!("../../rust/src/reference.rs");
 const READER_SPECIFIED: &str = include_str!("../../crates/format/specs/Format.antt");
 const RECORD_SPECIFIED: &str = include_str!("../../crates/network/specs/Record.antt");
@@ -251,6 +253,19 @@ fn the_most_steps_agree() {
     }
     let words = Refusal::TooManySteps.to_string().replace(',', "");
     assert_eq!(words, format!("more than {most} steps"));
+}
+
+/// The most rooms of one list, and the words of refusal 19.
+#[test]
+fn the_most_rooms_agree() {
+    let most = size_of_the_header("CUTLIST_MOST_ROOMS");
+    assert_eq!(MOST_ROOMS, most);
+    for text in [ROOMS, REFERENCE] {
+        let stated = between(text, "const MOST_ROOMS: usize = ", ";");
+        assert_eq!(number::<usize>(stated), most);
+    }
+    let words = Refusal::BadRooms.to_string();
+    assert!(words.contains(&format!("more than {most},")), "{words}");
 }
 
 /// The most points, a bit for each of them in every set of points, and the words of refusal 4.

@@ -26,6 +26,14 @@
 //! // that tests it, which takes less time than trimming it again, and lists the same.
 //! assert_eq!(plan.trimmed_mincuts(1000)?, rows);
 //!
+//! // Rooms 1 and 3 are sold together. Five minimal sets silence one of them or both, and two silence
+//! // both; of either at most 1,000, with at most 100,000 rows to work in.
+//! let one = plan.list_any(&[1, 3], 1000, 100_000)?;
+//! let lines: Vec<String> = one.iter().map(|set| set.to_string()).collect();
+//! assert_eq!(lines, ["0 1", "0 2 3", "1 2 3", "0 2 4", "3 4"]);
+//! let both = plan.list_all(&[1, 3], 1000, 100_000)?;
+//! assert_eq!(both, [EdgeSet(0b00011), EdgeSet(0b10101)]);
+//!
 //! // Cables 0, 1 and 2 cut the room off, and one of them could be spared.
 //! assert_eq!(plan.classify(EdgeSet(0b00111))?, Verdict::NotMinimal);
 //!
@@ -79,6 +87,7 @@ mod list;
 mod plan;
 mod refusal;
 mod replay;
+mod rooms;
 mod sets;
 mod simulation;
 #[allow(unsafe_code)]
@@ -89,6 +98,7 @@ pub use list::{ListError, Mincut, Mincuts};
 pub use plan::{EdgeError, EdgeFault, Plan, Relevant, Verdict, WEEK};
 pub use refusal::Refusal;
 pub use replay::{DOWN, UP};
+pub use rooms::MOST_ROOMS;
 pub use sets::{EdgeSet, Members, NodeSet};
 pub use simulation::{Simulated, Simulation, MOST_STEPS};
 pub use ways::{SeparateWays, Unshown, Way};

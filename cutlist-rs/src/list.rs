@@ -97,12 +97,12 @@ pub(crate) fn blank<R: Clone + Default>(count: usize) -> Result<Vec<R>, TryReser
     Ok(rows)
 }
 
-/// Why there is no list, of minimal cuts or of what the events of a log did.
+/// Why there is no list, of minimal cuts, of sets for several rooms, or of what the events of a log did.
 #[derive(Clone, Debug, PartialEq, Eq)]
 #[non_exhaustive]
 pub enum ListError {
     /// The call refused: [`Refusal::TooManyCuts`] if the plan has more minimal cuts than were asked
-    /// for.
+    /// for, [`Refusal::WorkTooShort`] if several rooms need more work rows than they may have.
     Refused(Refusal),
     /// There is no memory for the answer.
     Memory(TryReserveError),

@@ -6,6 +6,7 @@ use std::fmt;
 use crate::list::{blank, ListError, Mincuts};
 use crate::refusal::{answer, Refusal};
 use crate::replay;
+use crate::rooms;
 use crate::sets::{EdgeSet, NodeSet};
 use crate::simulation::{Simulated, Simulation};
 use crate::sys::{self, Record};
@@ -277,6 +278,81 @@ impl Plan {
     ) -> Result<usize, Refusal> {
         let (number, count) = sys::list_trimmed(&self.0, cuts, sides);
         answer(number, count)
+    }
+
+    /// The minimal sets of cables that silence at least one of several rooms, rising, if there are at
+    /// most so many; else [`Refusal::TooManyCuts`]. A set silences a room if no route leads there over
+    /// the other cables, and no smaller part of a set that is given silences any of the rooms. So they
+    /// are the rooms' minimal cuts without those that hold another one. If one of the rooms has no
+    /// route, the empty set is the only one.
+    ///
+    /// The rooms are points other than the server, at least one and at most
+    /// [`MOST_ROOMS`](crate::MOST_ROOMS), each once, in any order; else [`Refusal::BadRooms`]. The
+    /// plan's own room counts only if it is among them.
+    ///
+    /// They are taken in rising order of point, each in a step. The first step needs as many work rows
+    /// as the first room has minimal cuts; with p sets for the rooms so far, and q minimal cuts of the
+    /// next room, the next step needs p + q. If one needs more than `most_work`, that is
+    /// [`Refusal::WorkTooShort`], before [`Refusal::TooManyCuts`].
+    ///
+    /// Memory is asked for as the rooms need it, from 65,536 work rows on and never for more than
+    /// `most_work`, nor for more rows of the list than `most`; a row has 8 bytes. If it is not there,
+    /// that is an error too, as for [`Plan::mincuts`]. Many sets also take long, since each is held
+    /// against those that are kept.
+    pub fn list_any(
+        &self,
+        rooms: &[u8],
+        most: usize,
+        most_work: usize,
+    ) -> Result<Vec<EdgeSet>, ListError> {
+        rooms::listed(most, most_work, |cuts, work| {
+            self.list_any_into(rooms, cuts, work)
+        })
+    }
+
+    /// The minimal sets of cables that silence every one of several rooms, as [`Plan::list_any`] gives
+    /// those that silence at least one. They are unions of a minimal cut of each room, without those
+    /// that hold another one. A room without a route is silent already and does not matter; if none has
+    /// a route, the empty set is the only one.
+    ///
+    /// With p sets for the rooms so far, and q minimal cuts of the next room, the next step needs
+    /// p + q + p * q work rows.
+    pub fn list_all(
+        &self,
+        rooms: &[u8],
+        most: usize,
+        most_work: usize,
+    ) -> Result<Vec<EdgeSet>, ListError> {
+        rooms::listed(most, most_work, |cuts, work| {
+            self.list_all_into(rooms, cuts, work)
+        })
+    }
+
+    /// Lists the minimal sets of cables that silence at least one of several rooms into lent rows, by
+    /// lent work rows, as [`Plan::list_any`] does, and gives how many there are. Later rows, and all of
+    /// them on refusal, hold what they held. The work rows are all empty sets afterwards, also on
+    /// [`Refusal::TooManyCuts`] and [`Refusal::WorkTooShort`]; on [`Refusal::BadRooms`] they hold what
+    /// they held.
+    pub fn list_any_into(
+        &self,
+        rooms: &[u8],
+        cuts: &mut [EdgeSet],
+        work: &mut [EdgeSet],
+    ) -> Result<usize, Refusal> {
+        let (number, count) = sys::list_any(&self.0, rooms, cuts, work);
+        answer(number, count).and_then(|count| rooms::whole(cuts, count))
+    }
+
+    /// Lists the minimal sets of cables that silence every one of several rooms into lent rows, by lent
+    /// work rows, as [`Plan::list_any_into`] lists those that silence at least one.
+    pub fn list_all_into(
+        &self,
+        rooms: &[u8],
+        cuts: &mut [EdgeSet],
+        work: &mut [EdgeSet],
+    ) -> Result<usize, Refusal> {
+        let (number, count) = sys::list_all(&self.0, rooms, cuts, work);
+        answer(number, count).and_then(|count| rooms::whole(cuts, count))
     }
 
     /// Ways from server to room of which no two share a cable, as many as there can be, and one of the

@@ -66,6 +66,8 @@ refusals! {
     16 BadEvent "an event with an unknown command, or half an event"
     17 NoSuchEdge "an event or a works window of a cable not present"
     18 TooManyEvents "more whole events than bytes lent"
+    19 BadRooms "no room, more than 8, a room twice, the server, or a point outside the plan"
+    20 WorkTooShort "a step for several rooms needs more work rows than were lent"
     23 TooManyWindows "more than 14 opening windows, or more than 16 works windows"
     24 BadWindow "a window whose start is not below its end or whose end is above 10,080, or a piece of one"
     25 TooManySteps "more than 65,535 steps"

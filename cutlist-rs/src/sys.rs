@@ -76,6 +76,8 @@ macro_rules! on_a_record {
         }
 
         $(
+            // As many as the library's function takes.
+            #[allow(clippy::too_many_arguments)]
             unsafe fn $name(r: &Record, $($more: $type),*) -> u8 {
                 // SAFETY: the record's pointers are valid; of the others the caller says so.
                 unsafe {
@@ -115,6 +117,24 @@ on_a_record! {
         sides_length: usize,
         count: *mut usize
     );
+    fn cutlist_list_any(
+        rooms: *const u8,
+        rooms_length: usize,
+        cuts: *mut u64,
+        cuts_length: usize,
+        work: *mut u64,
+        work_length: usize,
+        count: *mut usize
+    );
+    fn cutlist_list_all(
+        rooms: *const u8,
+        rooms_length: usize,
+        cuts: *mut u64,
+        cuts_length: usize,
+        work: *mut u64,
+        work_length: usize,
+        count: *mut usize
+    );
     fn cutlist_replay(
         log: *const u8,
         log_length: usize,
@@ -143,6 +163,10 @@ on_a_record! {
 /// A call that lists into lent rows: each pointer must be valid for its type and length, and no two
 /// may overlap.
 type ListCall = unsafe fn(&Record, *mut u64, usize, *mut u64, usize, *mut usize) -> u8;
+
+/// A call that lists for several rooms into lent rows, by lent work rows: the same is asked.
+type RoomsCall =
+    unsafe fn(&Record, *const u8, usize, *mut u64, usize, *mut u64, usize, *mut usize) -> u8;
 
 /// Reads a plan.
 pub fn decode(plan: &[u8]) -> (u8, Record) {
@@ -223,6 +247,51 @@ fn list_by(call: ListCall, r: &Record, cuts: &mut [EdgeSet], sides: &mut [NodeSe
             cuts.len(),
             sides.as_mut_ptr().cast(),
             sides.len(),
+            &mut count,
+        )
+    };
+    (refusal, count)
+}
+
+/// Lists the minimal sets that silence at least one of these rooms into lent rows: the count.
+pub fn list_any(
+    r: &Record,
+    rooms: &[u8],
+    cuts: &mut [EdgeSet],
+    work: &mut [EdgeSet],
+) -> (u8, usize) {
+    list_for_rooms_by(cutlist_list_any, r, rooms, cuts, work)
+}
+
+/// The same for the minimal sets that silence every one of them.
+pub fn list_all(
+    r: &Record,
+    rooms: &[u8],
+    cuts: &mut [EdgeSet],
+    work: &mut [EdgeSet],
+) -> (u8, usize) {
+    list_for_rooms_by(cutlist_list_all, r, rooms, cuts, work)
+}
+
+fn list_for_rooms_by(
+    call: RoomsCall,
+    r: &Record,
+    rooms: &[u8],
+    cuts: &mut [EdgeSet],
+    work: &mut [EdgeSet],
+) -> (u8, usize) {
+    let mut count = 0;
+    // SAFETY: each pointer is valid for its type and length, and no two overlap. A set is laid out
+    // as its number, being transparent.
+    let refusal = unsafe {
+        call(
+            r,
+            rooms.as_ptr(),
+            rooms.len(),
+            cuts.as_mut_ptr().cast(),
+            cuts.len(),
+            work.as_mut_ptr().cast(),
+            work.len(),
             &mut count,
         )
     };

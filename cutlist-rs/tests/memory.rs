@@ -50,6 +50,22 @@ fn a_list_that_memory_cannot_hold_is_an_error() {
     assert_eq!(line.mincuts(usize::MAX).expect("listed").iter().len(), 1);
 }
 
+/// 2^24 work rows would take 128 MiB, and fewer do not suffice.
+#[test]
+fn work_rows_that_memory_cannot_hold_are_an_error() {
+    if !has_little_memory("work_rows_that_memory_cannot_hold_are_an_error") {
+        return;
+    }
+    for list in [Plan::list_any, Plan::list_all] {
+        let error = list(&two_hubs(), &[63], 1000, usize::MAX).expect_err("too many");
+        assert!(matches!(error, ListError::Memory(_)), "{error:?}");
+        // What was asked for has been given back.
+        let line = Plan::new(2, 0, 1).expect("accepted");
+        let listed = list(&line, &[1], usize::MAX, usize::MAX).expect("listed");
+        assert_eq!(listed.len(), 1);
+    }
+}
+
 /// A log of 48 MiB leaves no memory for a byte for each event, and one of 32 MiB none for two.
 #[test]
 fn a_log_that_memory_cannot_hold_besides_is_an_error() {

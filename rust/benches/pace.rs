@@ -1,20 +1,21 @@
 //! The list call beside the same method in ordinary Rust, on halls as they stand and with their
 //! points and cables numbered anew for each call; then the cost of a row in short lists and long
 //! ones, the slowest calls found, the useful part, which each list begins with, and the judging of a
-//! minimal cut; then the test of trimmed plans beside their trimming; then link logs of ten million
-//! events, the silent minutes of weeks, drills of the most steps, and width tables of a million rows,
-//! beside the same methods in ordinary Rust. All are measured in one run: medians over repeated calls in
-//! turn, the rows cleared before each list, and the bytes before each log. A ratio is the library's time
-//! over that of the column before it, of trimmed plans that of the first of two columns over that of the
-//! second.
+//! minimal cut; then the test of trimmed plans beside their trimming; then lists for several rooms, link
+//! logs of ten million events, the silent minutes of weeks, drills of the most steps, and width tables of a
+//! million rows, beside the same methods in ordinary Rust. All are measured in one run: medians over
+//! repeated calls in turn, the rows cleared before each list, and the bytes before each log. A ratio is the
+//! library's time over that of the column before it, of trimmed plans that of the first of two columns over
+//! that of the second.
 //!
 //! cargo bench --offline
 //!
-//! The eleven-point hall alone, about a second; or trimmed plans alone; or logs alone; or weeks alone; or
-//! drills alone; or width tables alone:
+//! The eleven-point hall alone, about a second; or trimmed plans alone; or lists for several rooms alone; or
+//! logs alone; or weeks alone; or drills alone; or width tables alone:
 //!
 //! cargo bench --offline -- --eleven
 //! cargo bench --offline -- --trimmed
+//! cargo bench --offline -- --rooms
 //! cargo bench --offline -- --replay
 //! cargo bench --offline -- --works
 //! cargo bench --offline -- --drills
@@ -55,13 +56,14 @@ use cutlist_tests::plans;
 use cutlist_tests::record::Record;
 use cutlist_tests::reference::{DOWN, MOST_STEPS, UP};
 use cutlist_tests::rng::Rng;
+use cutlist_tests::rooms::{self, Goal, Steps};
 use cutlist_tests::sys::capi::{on_fields, Build};
 use cutlist_tests::timer::Timer;
 use cutlist_tests::weeks::Week;
 use cutlist_tests::{brute, ordinary, sides, sys};
 
-/// On the eleven-point hall, on logs, on weeks and on drills the library may take so many times what
-/// ordinary Rust takes.
+/// On the eleven-point hall, for several rooms, on logs, on weeks and on drills the library may take so many
+/// times what ordinary Rust takes.
 const MOST_RATIO: f64 = 2.0;
 
 /// From a thousand rows to a million the dearest row may cost so many times the cheapest.
@@ -144,6 +146,7 @@ enum Asked {
     All,
     Eleven,
     Trimmed,
+    Rooms,
     Replay,
     Works,
     Drills,
@@ -166,6 +169,7 @@ impl Options {
             let again = match name.as_str() {
                 "--eleven" => asked.replace(Asked::Eleven).is_some(),
                 "--trimmed" => asked.replace(Asked::Trimmed).is_some(),
+                "--rooms" => asked.replace(Asked::Rooms).is_some(),
                 "--replay" => asked.replace(Asked::Replay).is_some(),
                 "--works" => asked.replace(Asked::Works).is_some(),
                 "--drills" => asked.replace(Asked::Drills).is_some(),
@@ -408,7 +412,7 @@ fn measure(listers: &[Lister], name: &str, hall: &Record) {
         ample => vec![count, ample],
     };
     for rows in lent {
-        let calls = calls(listers, slowest);
+        let calls = calls(listers.len(), slowest);
         print!("{}", line(name, hall, count, rows, calls));
         for numbers in [Numbers::AsTheyStand, Numbers::Anew] {
             let times = medians(listers, hall, numbers, rows, calls, Timer::of(slowest));
@@ -418,9 +422,9 @@ fn measure(listers: &[Lister], name: &str, hall: &Record) {
     }
 }
 
-/// The calls for one figure, if the slowest lister takes so long.
-fn calls(listers: &[Lister], slowest: Duration) -> usize {
-    let lists = slowest * listers.len() as u32;
+/// The calls of each for one figure, if the slowest of so many takes so long.
+fn calls(each: usize, slowest: Duration) -> usize {
+    let lists = slowest * each as u32;
     let calls = (BUDGET.as_nanos() / lists.as_nanos().max(1)) as usize;
     calls.clamp(CALLS.0, CALLS.1) | 1
 }
@@ -786,7 +790,7 @@ fn median_lists(hall: &Record, numbers: Numbers) -> ([Duration; 2], usize, usize
         Lister::Library(&Build::LINKED),
     ];
     let (count, slowest) = check(&listers, hall);
-    let calls = calls(&listers, slowest);
+    let calls = calls(listers.len(), slowest);
     let (timer, mut lent) = (Timer::of(slowest), Lent::rows(count));
     let medians = medians_of_pairs(hall, numbers, calls, |call, plan| {
         lent.clear();
@@ -833,6 +837,120 @@ fn trimmed(numbers: Numbers) -> Vec<(String, f64)> {
         }
     }
     dear
+}
+
+/// Packages of rooms: the hall with its name, and the rooms with theirs. The first has about a million
+/// unions.
+fn packages() -> [(&'static str, Record, &'static str, &'static [u8]); 4] {
+    let grid = halls::grid(4, 5);
+    let eleven = halls::complete(11);
+    [
+        ("grid of 4 by 5", grid.clone(), "4 15", &[4, 15]),
+        ("grid of 4 by 5", grid.clone(), "4 15 19", &[4, 15, 19]),
+        ("grid of 4 by 5", grid, "9 12 18", &[9, 12, 18]),
+        ("every pair of 11", eleven, "7 to 10", &[7, 8, 9, 10]),
+    ]
+}
+
+/// How many unions there are in all of a set for the rooms so far with one of the next room's list, whether
+/// each is made or not.
+fn unions(hall: &Record, rooms: &[u8]) -> usize {
+    let sets = |rooms: &[u8]| {
+        let [_, all] = rooms::by_sides(hall, rooms, usize::MAX);
+        all.expect("no bound").list.len()
+    };
+    let step = |next: usize| sets(&rooms[..next]) * sets(&rooms[next..=next]);
+    (1..rooms.len()).map(step).sum()
+}
+
+/// The medians of a list for several rooms by the library and by ordinary Rust, with the rows and the work
+/// rows that it needs, and the calls of each.
+fn median_for_rooms(
+    goal: Goal,
+    hall: &Record,
+    rooms: &[u8],
+    steps: &Steps,
+) -> ([Duration; 2], usize) {
+    let count = steps.list.len();
+    let (mut cuts, mut work) = (vec![0; count], vec![0; steps.need()]);
+    let mut turn = |timer: Timer| {
+        cuts.fill(0);
+        let (answer, library) =
+            timer.time(|| sys::list_rooms_bare(goal, hall, rooms, &mut cuts, &mut work));
+        assert!(answer == (0, count) && cuts == steps.list, "{hall:?}");
+        cuts.fill(0);
+        let (plain, ordinary) =
+            timer.time(|| ordinary::list_rooms(goal, hall, rooms, &mut cuts, &mut work));
+        assert!(plain == Ok(count) && cuts == steps.list, "{hall:?}");
+        [library, ordinary]
+    };
+    let slowest = turn(Timer::Clock).into_iter().max().expect("a time");
+    let calls = calls(2, slowest);
+    let mut times = [Vec::new(), Vec::new()];
+    for _ in 0..calls {
+        for (times, time) in times.iter_mut().zip(turn(Timer::of(slowest))) {
+            times.push(time);
+        }
+    }
+    (times.map(median), calls)
+}
+
+/// The table of lists for several rooms: how many sets there are, how many work rows they need and how many
+/// unions there are, the library's time and that of ordinary Rust; then what one of about a million unions
+/// costs. Gives the lists on which the library takes too many times what ordinary Rust takes, and the ratio.
+fn several_rooms() -> Vec<(String, f64)> {
+    let names = &LISTERS[..2];
+    println!(
+        "\n{:<32} {:>6} {:>6} {:>5} {:>6} {:>8} {:>8} {:>5}{}",
+        "lists for several rooms",
+        "points",
+        "cables",
+        "rooms",
+        "sets",
+        "work",
+        "unions",
+        "calls",
+        headings(names, WIDE)
+    );
+    println!("{:<83}{}", "", units(names, "us/call", WIDE).trim_end());
+
+    let (mut slow, mut costs) = (Vec::new(), Vec::new());
+    for (hall_name, hall, rooms_name, rooms) in packages() {
+        let both = rooms::by_sides(&hall, rooms, usize::MAX);
+        for (goal, steps) in Goal::BOTH.into_iter().zip(both) {
+            let steps = steps.expect("no bound");
+            let (goal_name, unions) = match goal {
+                Goal::Any => ("any", 0),
+                Goal::All => ("all", unions(&hall, rooms)),
+            };
+            let name = format!("{hall_name}, {goal_name} of {rooms_name}");
+            let (times, calls) = median_for_rooms(goal, &hall, rooms, &steps);
+            println!(
+                "{name:<32} {:>6} {:>6} {:>5} {:>6} {:>8} {unions:>8} {calls:>5}{}",
+                hall.nodes,
+                hall.present.count_ones(),
+                rooms.len(),
+                steps.list.len(),
+                steps.need(),
+                figures(&times, 1000, WIDE)
+            );
+            if unions > 0 {
+                let [library, ordinary] = times.map(|time| {
+                    let each = time.as_nanos() as f64 / unions as f64;
+                    format!("{:.1} ms, {each:.1} ns each", 1e3 * time.as_secs_f64())
+                });
+                costs.push(format!(
+                    "{unions} unions: library {library}; ordinary {ordinary}"
+                ));
+            }
+            let ratio = ratio(times[0], times[1]);
+            if ratio > MOST_RATIO {
+                slow.push((name, ratio));
+            }
+        }
+    }
+    println!("\n{}", costs[0]);
+    slow
 }
 
 /// Events in each log that is played back, and the calls of each.
@@ -1202,7 +1320,7 @@ fn main() -> ExitCode {
     let arguments = env::args().skip(1).filter(|argument| argument != "--bench");
     let Some(options) = Options::of(arguments) else {
         eprintln!(
-            "cargo bench --offline [-- [--eleven] [--before LIB.so] | [--widths] [--singly LIB.so] | --trimmed | --replay | --works | --drills | --plans]"
+            "cargo bench --offline [-- [--eleven] [--before LIB.so] | [--widths] [--singly LIB.so] | --trimmed | --rooms | --replay | --works | --drills | --plans]"
         );
         return ExitCode::from(2);
     };
@@ -1252,6 +1370,13 @@ fn main() -> ExitCode {
         exceeded.extend(dear.into_iter().flatten().map(|(name, ratio)| {
             format!(
                 "On the hall '{name}' the test of a trimmed plan takes {ratio:.2} times what trimming it takes, not less."
+            )
+        }));
+    }
+    if all || asked == Asked::Rooms {
+        exceeded.extend(several_rooms().into_iter().map(|(name, ratio)| {
+            format!(
+                "On the list '{name}' the library takes {ratio:.2} times what ordinary Rust takes, more than {MOST_RATIO}."
             )
         }));
     }

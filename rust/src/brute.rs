@@ -122,6 +122,11 @@ impl Known {
 /// Every set of present cables, rising, with its verdict: all its proper subsets were looked at.
 pub fn verdicts(record: &Record) -> Vec<(u64, Verdict)> {
     let minpaths = minpaths(record);
+    verdicts_by(record, |set| is_cut(&minpaths, set))
+}
+
+/// The same where `is_cut` tells which sets are cuts.
+fn verdicts_by(record: &Record, is_cut: impl Fn(u64) -> bool) -> Vec<(u64, Verdict)> {
     let edges: Vec<usize> = members(record.present).collect();
     assert!(edges.len() <= 16, "too many sets: {record:?}");
 
@@ -132,7 +137,7 @@ pub fn verdicts(record: &Record) -> Vec<(u64, Verdict)> {
     for small in 0..cut_inside.len() {
         let set = spread(small);
         let smaller_cut = members(small as u64).any(|place| cut_inside[small & !(1 << place)]);
-        let cut = is_cut(&minpaths, set);
+        let cut = is_cut(set);
         cut_inside[small] = cut || smaller_cut;
         judged.push((
             set,
@@ -148,7 +153,13 @@ pub fn verdicts(record: &Record) -> Vec<(u64, Verdict)> {
 
 /// The minimal cuts, rising, out of all sets of present cables.
 pub fn mincuts_by_subsets(record: &Record) -> Vec<u64> {
-    verdicts(record)
+    let minpaths = minpaths(record);
+    least_by_subsets(record, |set| is_cut(&minpaths, set))
+}
+
+/// The least of those sets of present cables that are such, rising, out of all sets of present cables.
+pub fn least_by_subsets(record: &Record, is_such: impl Fn(u64) -> bool) -> Vec<u64> {
+    verdicts_by(record, is_such)
         .into_iter()
         .filter(|&(_, verdict)| verdict == Verdict::Minimal)
         .map(|(set, _)| set)

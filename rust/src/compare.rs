@@ -10,6 +10,7 @@ use crate::ordinary;
 use crate::record::{Record, SLOTS};
 use crate::reference::{self, Refusal, LONGEST_PLAN};
 use crate::rng::Rng;
+use crate::rooms::{Goal, Steps};
 use crate::separate;
 use crate::sys;
 
@@ -335,6 +336,54 @@ pub fn part_and_list(rng: &mut Rng, record: &Record, part: Part, rows: &[Row]) {
         (true, answer) => listed(answer, cuts, sides),
         (false, answer) => assert_eq!(answer, Err(26), "{record:?}"),
     }
+}
+
+/// Lists for several rooms over what the rows held; if neither the plan nor the rooms are refused, `steps` is
+/// their list, or `None` if some step needs more work rows than are lent. What rows and work rows hold
+/// afterwards is fixed to the last word; ordinary Rust leaves the same. Gives the refusal number.
+pub fn list_rooms(
+    goal: Goal,
+    record: &Record,
+    rooms: &[u8],
+    steps: Option<&Steps>,
+    cuts_before: &[u64],
+    work_before: &[u64],
+) -> u8 {
+    let steps = steps.filter(|steps| steps.too_short(work_before.len()).is_none());
+    let list = steps.map(|steps| &steps.list[..]);
+    let number = match reference::number(&reference::rooms(record, rooms)) {
+        0 if list.is_none() => Refusal::WorkTooShort as u8,
+        0 if list.is_some_and(|list| list.len() > cuts_before.len()) => Refusal::TooManyCuts as u8,
+        number => number,
+    };
+    let listed = list.filter(|_| number == 0).unwrap_or_default();
+    let mut expected_cuts = cuts_before.to_vec();
+    expected_cuts[..listed.len()].copy_from_slice(listed);
+    let expected_work = match number {
+        0 | 12 | 20 => vec![0; work_before.len()],
+        _ => work_before.to_vec(),
+    };
+
+    let (mut cuts, mut work) = (cuts_before.to_vec(), work_before.to_vec());
+    let answer = sys::list_rooms(goal, record, rooms, &mut cuts, &mut work);
+    assert_eq!(
+        answer,
+        (number, listed.len()),
+        "{goal:?} of {rooms:?}, {} work rows, record {record:?}",
+        work.len()
+    );
+    assert_rows("cut", &cuts, &expected_cuts, record);
+    assert_rows("work", &work, &expected_work, record);
+
+    let (mut cuts, mut work) = (cuts_before.to_vec(), work_before.to_vec());
+    let plain = match ordinary::list_rooms(goal, record, rooms, &mut cuts, &mut work) {
+        Ok(count) => (0, count),
+        Err(refusal) => (refusal, 0),
+    };
+    assert_eq!(plain, answer, "{goal:?} of {rooms:?}, record {record:?}");
+    assert_rows("cut", &cuts, &expected_cuts, record);
+    assert_rows("work", &work, &expected_work, record);
+    number
 }
 
 fn assert_rows<T: PartialEq + LowerHex>(kind: &str, rows: &[T], expected: &[T], record: &Record) {

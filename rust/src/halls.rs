@@ -1,5 +1,8 @@
 //! Halls with a name or a pattern. The server is point 0 unless said otherwise.
 
+use std::fs;
+use std::path::Path;
+
 use crate::record::{Record, MOST_NODES};
 use crate::reference;
 
@@ -201,6 +204,24 @@ pub fn turned(mut hall: Record) -> Record {
     hall
 }
 
+/// The plans that lie in halls/, refused ones too: the name of each, and its bytes.
+pub fn files() -> Vec<(String, Vec<u8>)> {
+    let folder = Path::new(env!("CARGO_MANIFEST_DIR")).join("../halls");
+    let files = fs::read_dir(folder).expect("the folder halls");
+    let mut plans: Vec<(String, Vec<u8>)> = files
+        .map(|file| {
+            let path = file.expect("a file").path();
+            let text = fs::read_to_string(&path).expect("a text");
+            let digits = text.lines().flat_map(|line| line.split('#').next());
+            let digits: String = digits.collect();
+            let name = path.file_name().expect("a name").to_string_lossy();
+            (name.into_owned(), bytes(&digits))
+        })
+        .collect();
+    plans.sort_unstable();
+    plans
+}
+
 /// The slowest list that was found among plans with at most 2,048 rows: it has 1,873.
 pub fn slowest_list() -> Record {
     plan(SLOWEST_LIST)
@@ -213,9 +234,14 @@ pub fn slowest_refusal() -> Record {
 
 /// The hall of a plan in hexadecimal.
 fn plan(digits: &str) -> Record {
+    reference::decode(&bytes(digits)).expect("a plan")
+}
+
+/// The bytes of two hexadecimal digits each, with or without gaps between them.
+fn bytes(digits: &str) -> Vec<u8> {
+    let digits: String = digits.split_whitespace().collect();
     let byte = |at| u8::from_str_radix(&digits[at..at + 2], 16).expect("two digits");
-    let bytes: Vec<u8> = (0..digits.len()).step_by(2).map(byte).collect();
-    reference::decode(&bytes).expect("a plan")
+    (0..digits.len()).step_by(2).map(byte).collect()
 }
 
 const SLOWEST_LIST: &str = "\

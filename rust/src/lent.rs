@@ -53,7 +53,7 @@ impl<T: Clone> Guarded<T> {
     }
 }
 
-/// What lent rows are made of: the bytes of a plan, the numbers of windows, cuts or near sides.
+/// What lent rows are made of: the bytes of a plan, rooms, the numbers of windows, cuts or near sides.
 pub trait Word: Copy + PartialEq {
     /// A guard word, by its place below `GUARD`: neighbours differ, and none is zero.
     fn guard(place: usize) -> Self;
@@ -119,7 +119,12 @@ impl<T: Word> Rows<T> {
 /// So many cut rows and side rows that hold anything.
 pub fn stale_rows(rng: &mut Rng, cuts: usize, sides: usize) -> (Vec<u64>, Vec<Nodes>) {
     (
-        (0..cuts).map(|_| rng.draw()).collect(),
+        stale(rng, cuts),
         (0..sides).map(|_| rng.draw() as Nodes).collect(),
     )
+}
+
+/// So many rows for sets of cables that hold anything.
+pub fn stale(rng: &mut Rng, rows: usize) -> Vec<u64> {
+    (0..rows).map(|_| rng.draw()).collect()
 }

@@ -10,6 +10,7 @@
 //! - `sides`: a second lister, by near sides, for larger plans
 //! - `ordinary`: the library's own method in ordinary Rust, to be measured beside it
 //! - `separate`: the most routes of which no two share a cable, and the fewest cables in any row
+//! - `rooms`: lists for several rooms, and the work rows that they need
 //! - `compare`: one question put to both, the answers compared
 //! - `rng`: a small generator with a fixed seed
 //! - `halls`: halls with a name or a pattern
@@ -19,6 +20,7 @@
 //! - `lists`: random lists of rows, and damage to them
 //! - `weeks`: random windows of a week, and damage to them
 //! - `drills`: random drills, and too many steps for one
+//! - `packages`: random packages of rooms, and damage to them
 //! - `tally`: how often each refusal number and each verdict occurred
 //! - `timer`: what tells the time of a call
 //! - `fuzz`: arbitrary bytes as questions for every function
@@ -34,10 +36,12 @@ pub mod lent;
 pub mod lists;
 pub mod logs;
 pub mod ordinary;
+pub mod packages;
 pub mod plans;
 pub mod record;
 pub mod reference;
 pub mod rng;
+pub mod rooms;
 pub mod separate;
 pub mod sides;
 pub mod sys;

@@ -99,6 +99,19 @@ pub fn small(rng: &mut Rng, most: usize) -> Record {
     numbered(rng, nodes, ends)
 }
 
+/// The plan with every choice of more cables: as many as there are numbers or fewer, rising by their
+/// ends, since cables that differ in their numbers alone are alike.
+pub fn laid(plan: &Record, numbers: &[usize], ends: &[(u8, u8)]) -> Vec<Record> {
+    let mut found = vec![plan.clone()];
+    if let [number, numbers @ ..] = numbers {
+        for (place, &(one, other)) in ends.iter().enumerate() {
+            let more = plan.clone().with(*number, one, other);
+            found.extend(laid(&more, numbers, &ends[place..]));
+        }
+    }
+    found
+}
+
 /// A random plan of many points: a tree, then cables between points not far apart and a few loops,
 /// so that most of it is useful and the list stays short enough to check.
 pub fn large(rng: &mut Rng) -> Record {

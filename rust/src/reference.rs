@@ -1,6 +1,7 @@
-//! The reader, the record test, the writer, what a link log and the windows of a week say, and how a drill
-//! goes, straight from the paper.
+//! The reader, the record test, the writer, what a link log and the windows of a week say, how a drill
+//! goes, and which rooms may have a list together, straight from the paper.
 
+use std::collections::BTreeSet;
 use std::ops::Range;
 
 use crate::drills::Drill;
@@ -27,6 +28,9 @@ pub const MOST_WORKS: usize = 16;
 /// The most steps of a drill.
 pub const MOST_STEPS: u64 = 65_535;
 
+/// The most rooms of one list.
+pub const MOST_ROOMS: usize = 8;
+
 /// A draw takes the number times the first plus the second.
 pub const MULTIPLIER: u64 = 6_364_136_223_846_793_005;
 pub const INCREMENT: u64 = 1_442_695_040_888_963_407;
@@ -51,6 +55,8 @@ pub enum Refusal {
     BadEvent = 16,
     NoSuchEdge = 17,
     TooManyEvents = 18,
+    BadRooms = 19,
+    WorkTooShort = 20,
     TooManyWindows = 23,
     BadWindow = 24,
     TooManySteps = 25,
@@ -251,6 +257,17 @@ pub fn advanced(number: u64) -> u64 {
 /// What is drawn with a number: its top 8 bits.
 pub fn drawn(number: u64) -> u8 {
     number.to_be_bytes()[0]
+}
+
+/// The rooms of a list, in rising order.
+pub fn rooms(record: &Record, rooms: &[u8]) -> Result<Vec<u8>, Refusal> {
+    fault(record)?;
+    let rising: BTreeSet<u8> = rooms.iter().copied().collect();
+    let is_room = |&point: &u8| point < record.nodes && point != record.source;
+    refuse_unless(!rooms.is_empty() && rooms.len() <= MOST_ROOMS, BadRooms)?;
+    refuse_unless(rising.len() == rooms.len(), BadRooms)?;
+    refuse_unless(rising.iter().all(is_room), BadRooms)?;
+    Ok(rising.into_iter().collect())
 }
 
 /// The part of the plan that is still to be read.

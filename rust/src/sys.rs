@@ -5,6 +5,7 @@ use crate::answers::{Nodes, Part, Simulated, Widths};
 use crate::drills::Drill;
 use crate::lent::{Guarded, Rows};
 use crate::record::{Record, SLOTS};
+use crate::rooms::Goal;
 use capi::Build;
 
 /// The functions as include/cutlist.h declares them, with nothing around.
@@ -143,6 +144,24 @@ pub mod capi {
             cut_rows: usize,
             sides: *mut Nodes,
             side_rows: usize,
+            count: *mut usize
+        );
+        fn cutlist_list_any(
+            rooms: *const u8,
+            room_count: usize,
+            cuts: *mut u64,
+            cut_rows: usize,
+            work: *mut u64,
+            work_rows: usize,
+            count: *mut usize
+        );
+        fn cutlist_list_all(
+            rooms: *const u8,
+            room_count: usize,
+            cuts: *mut u64,
+            cut_rows: usize,
+            work: *mut u64,
+            work_rows: usize,
             count: *mut usize
         );
         fn cutlist_replay(
@@ -406,6 +425,76 @@ fn list_bare_by(
     };
 
     (refusal, count)
+}
+
+/// Lists for several rooms into lent rows, by lent work rows: the refusal number and the count.
+pub fn list_rooms(
+    goal: Goal,
+    record: &Record,
+    rooms: &[u8],
+    cuts: &mut [u64],
+    work: &mut [u64],
+) -> (u8, usize) {
+    let mut lent_rooms = Rows::new(rooms);
+    let mut lent_cuts = Rows::new(cuts);
+    let mut lent_work = Rows::new(work);
+    let mut count = Guarded::new(usize::from_ne_bytes([STALE; size_of::<usize>()]));
+
+    // SAFETY: each pointer is valid for its type and length, and no two overlap.
+    let refusal = on_a_copy(record, |r| unsafe {
+        rooms_call(goal)(
+            r,
+            lent_rooms.place(),
+            rooms.len(),
+            lent_cuts.place(),
+            cuts.len(),
+            lent_work.place(),
+            work.len(),
+            count.place(),
+        )
+    });
+
+    assert!(lent_rooms.take() == rooms, "a call wrote into the rooms");
+    cuts.copy_from_slice(lent_cuts.take());
+    work.copy_from_slice(lent_work.take());
+    (refusal, count.take())
+}
+
+/// The same straight on the rows, with nothing around the call: for measuring.
+pub fn list_rooms_bare(
+    goal: Goal,
+    record: &Record,
+    rooms: &[u8],
+    cuts: &mut [u64],
+    work: &mut [u64],
+) -> (u8, usize) {
+    let mut count = 0;
+    // SAFETY: each pointer is valid for its type and length, and no two overlap.
+    let refusal = unsafe {
+        rooms_call(goal)(
+            record,
+            rooms.as_ptr(),
+            rooms.len(),
+            cuts.as_mut_ptr(),
+            cuts.len(),
+            work.as_mut_ptr(),
+            work.len(),
+            &mut count,
+        )
+    };
+    (refusal, count)
+}
+
+/// A call that lists for several rooms.
+type RoomsCall =
+    unsafe fn(*const Record, *const u8, usize, *mut u64, usize, *mut u64, usize, *mut usize) -> u8;
+
+/// The one for this goal.
+fn rooms_call(goal: Goal) -> RoomsCall {
+    match goal {
+        Goal::Any => capi::cutlist_list_any,
+        Goal::All => capi::cutlist_list_all,
+    }
 }
 
 /// Plays back a link log into lent bytes: the refusal number and the count.

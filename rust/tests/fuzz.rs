@@ -11,7 +11,7 @@ use cutlist_tests::drills::Drill;
 use cutlist_tests::fuzz::case::{self, Case, Size, FIELDS, FITTED, HEAD, RAW};
 use cutlist_tests::fuzz::counts::{Counts, FAR};
 use cutlist_tests::fuzz::digest::{
-    digest, drills_digest, replay_digest, trimmed_digest, widths_digest, works_digest,
+    digest, drills_digest, replay_digest, rooms_digest, trimmed_digest, widths_digest, works_digest,
 };
 use cutlist_tests::fuzz::search::{panic_of, search};
 use cutlist_tests::fuzz::shrinking::shrink;
@@ -22,6 +22,7 @@ use cutlist_tests::plans;
 use cutlist_tests::record::{Record, MOST_NODES};
 use cutlist_tests::reference::DECIDING;
 use cutlist_tests::rng::Rng;
+use cutlist_tests::rooms::{self, Goal};
 use cutlist_tests::weeks::Week;
 use cutlist_tests::{brute, reference, separate, sides, sys};
 
@@ -241,6 +242,38 @@ fn a_wrong_drill_is_found_and_shrunk() {
     assert_eq!(drill, least);
 }
 
+/// How many sets the library lists for the rooms of a case, to silence one of them and to silence all; none
+/// on refusal, or if they need many work rows.
+fn sets_for_rooms(case: &Case) -> [usize; 2] {
+    let (mut cuts, mut work) = ([0; 100], [0; 100]);
+    Goal::BOTH.map(|goal| sys::list_rooms(goal, &case.record, &case.rooms, &mut cuts, &mut work).1)
+}
+
+/// A wrong claim about several rooms: that one set alone silences all of them and no less.
+fn ask_with_a_wrong_list_for_rooms(bytes: &[u8], counts: &mut Counts) {
+    questions::ask(bytes, counts);
+    let case = Case::of(bytes);
+    let [_, all] = sets_for_rooms(&case);
+    assert!(case.rooms.len() < 2 || all < 2, "rooms have two sets");
+}
+
+#[test]
+fn a_wrong_list_for_rooms_is_found_and_shrunk() {
+    let found = search(cases(99, 1_000), ask_with_a_wrong_list_for_rooms).expect_err("two sets");
+    assert_eq!(found.message, "rooms have two sets");
+    let wrong = |bytes: &[u8]| {
+        panic_of(|| ask_with_a_wrong_list_for_rooms(bytes, &mut Counts::default())).is_some()
+    };
+    let shrunk = shrink(&found.bytes, 10_000, wrong);
+    assert!(wrong(&shrunk));
+    // Nothing is left but two rooms and two cables, each of which silences both, and perhaps a loop, without
+    // which other rooms would be drawn.
+    let case = Case::of(&shrunk);
+    let cables = case.record.present & !case.record.loops();
+    assert_eq!((case.rooms.len(), cables.count_ones()), (2, 2), "{case:?}");
+    assert_eq!(sets_for_rooms(&case)[1], 2, "{case:?}");
+}
+
 /// A wrong claim about widths: that each cable counts.
 fn ask_with_a_wrong_width(bytes: &[u8], counts: &mut Counts) {
     questions::ask(bytes, counts);
@@ -347,6 +380,8 @@ fn every_byte_string_is_a_case() {
     assert!(counts.metres.total() >= counts.cases);
     assert!(counts.list.total() >= counts.cases);
     assert_eq!(counts.list_trimmed.total(), counts.list.total());
+    assert!(counts.list_any.total() >= 2 * counts.cases);
+    assert!(counts.list_all.total() >= 2 * counts.cases);
     assert!(counts.replay.total() >= 3 * counts.cases);
     assert!(counts.silent_minutes.total() >= 3 * counts.cases);
     assert_eq!(counts.simulate.total(), 3 * counts.cases);
@@ -415,6 +450,25 @@ fn the_digest_of_trimmed_plans() {
     // Metres change nothing.
     let measured = bridge.clone().with_metres(4, 300);
     assert_eq!(digest_of(&measured), digest_of(&bridge));
+}
+
+/// The lists for several rooms have a number of their own, which plan and rooms change and metres do not.
+#[test]
+fn the_digest_of_rooms() {
+    let bridge = halls::bridge();
+    let digest_of = |hall: &Record, rooms: u8, which: u8| {
+        let mut bytes = with_head(FITTED, &plans::bytes(hall));
+        bytes[20..22].copy_from_slice(&[rooms, which]);
+        rooms_digest([bytes])
+    };
+    let other = bridge.clone().with(63, 0, 3);
+    let mut numbers = vec![digest_of(&other, 2, 0), digest_of(&bridge, 2, 1)];
+    numbers.extend((0..4).map(|rooms| digest_of(&bridge, rooms, 0)));
+    numbers.sort_unstable();
+    numbers.dedup();
+    assert_eq!(numbers.len(), 6);
+    let measured = bridge.clone().with_metres(4, 300);
+    assert_eq!(digest_of(&measured, 2, 0), digest_of(&bridge, 2, 0));
 }
 
 /// What is written for logs has a number of its own, which the log changes and metres do not.
@@ -560,6 +614,7 @@ fn cases_of_every_kind_are_made() {
         let steps = |edge: usize| record.first[edge].abs_diff(record.second[edge]);
         let ways = fit.then(|| separate::most_by_flow(record));
         let doubled = |cut| brute::is_doubled(record, cut);
+        let is_silent = |&room: &u8| !rooms::is_heard(record, room);
         for (kind, met) in [
             ("no bytes", case.plan.is_empty()),
             ("more bytes than decide", case.plan.len() > DECIDING),
@@ -658,6 +713,22 @@ fn cases_of_every_kind_are_made() {
                     && silent_steps(&case) == [0, 0],
             ),
             ("a drill without a step", case.drill.steps == 0),
+            ("no room", case.rooms.is_empty()),
+            ("one room", fit && case.rooms.len() == 1),
+            ("eight rooms", fit && case.rooms.len() == 8),
+            ("more rooms than are fit", fit && case.rooms.len() == 9),
+            (
+                "rooms without the plan's own",
+                fit && !case.rooms.contains(&record.sink),
+            ),
+            (
+                "several rooms, one of them without a route",
+                fit && case.rooms.len() > 1 && case.rooms.iter().any(is_silent),
+            ),
+            (
+                "several rooms with more than one set to silence all of them",
+                fit && case.rooms.len() > 1 && sets_for_rooms(&case)[1] > 1,
+            ),
             ("exactly the bytes needed", case.buffer == Size::Needed(0)),
             ("one byte less", case.buffer == Size::Needed(-1)),
         ] {
@@ -739,6 +810,17 @@ fn settings_mean_what_they_say() {
         steps: 63,
     };
     assert_eq!(Case::of(&bytes).drill, expected);
+    // Its seventh byte is the number of rooms, and its eighth says which they are.
+    let rooms = |count: u8, which: u8| {
+        let mut bytes = with_head(FITTED, &plans::bytes(&halls::complete(11)));
+        bytes[20..22].copy_from_slice(&[count, which]);
+        Case::of(&bytes).rooms
+    };
+    for count in 0..=9 {
+        assert_eq!(rooms(count, 0).len(), count.into());
+        assert_eq!(rooms(count + 10, 7), rooms(count, 7));
+    }
+    assert_ne!(rooms(8, 0), rooms(8, 1));
 }
 
 /// Any bytes make a fit record, and a plan without fault makes its own; any bytes are a raw record.
@@ -821,6 +903,11 @@ fn the_command() {
     assert_eq!((code, text), (Some(0), format!("{trimmed:016x}\n")));
     assert_ne!(trimmed, number);
 
+    let (code, text) = run(&["--digest", "--rooms", "--seed", "88", "--cases", "7"]);
+    let rooms = rooms_digest(cases(88, 7).map(|(_, bytes)| bytes));
+    assert_eq!((code, text), (Some(0), format!("{rooms:016x}\n")));
+    assert_ne!(rooms, number);
+
     let (code, text) = run(&["--digest", "--replay", "--seed", "88", "--cases", "7"]);
     let replay = replay_digest(cases(88, 7).map(|(_, bytes)| bytes));
     assert_eq!((code, text), (Some(0), format!("{replay:016x}\n")));
@@ -851,10 +938,16 @@ fn the_command() {
         &["--file", "/no/such/file"][..],
         &["--cases"],
         &["--trimmed"],
+        &["--rooms"],
         &["--replay"],
         &["--works"],
         &["--drills"],
         &["--widths"],
+        &["--digest", "--trimmed", "--rooms"],
+        &["--digest", "--rooms", "--replay"],
+        &["--digest", "--rooms", "--works"],
+        &["--digest", "--rooms", "--drills"],
+        &["--digest", "--rooms", "--widths"],
         &["--digest", "--trimmed", "--replay"],
         &["--digest", "--trimmed", "--works"],
         &["--digest", "--replay", "--works"],

@@ -34,10 +34,18 @@ static const uint16_t openings[4] = {100, 200, 110, CUTLIST_WEEK};
 static const uint16_t works[9] = {0, 150, 0, 120, 200, 1, 7, 8, 256};
 static const uint16_t windows[2 * CUTLIST_MOST_OPENINGS + 1] = {0};
 
+/* Two rooms in any order, the first of them twice, and the server; and more than there may be. */
+static const uint8_t rooms[4] = {3, 1, 3, 0};
+static const uint8_t many_rooms[CUTLIST_MOST_ROOMS + 1] = {1, 2, 3, 4, 5, 6, 7, 8, 9};
+
 int main(void)
 {
     static const uint64_t cuts_listed[5] = {3, 14, 21, 24, 7};
     static const uint64_t sides_listed[5] = {1, 3, 5, 7, 9};
+    static const uint64_t any_listed[6] = {3, 13, 14, 21, 24, 7};
+    static const uint64_t all_listed[6] = {3, 21, 7, 7, 7, 7};
+    static const uint64_t untouched[6] = {7, 7, 7, 7, 7, 7};
+    static const uint64_t cleared[20] = {0};
     static const uint64_t rows[3] = {33, 3, 32};
     struct cutlist_plan plan, zero;
     uint8_t bytes[27], silent[5], verdict;
@@ -45,6 +53,7 @@ int main(void)
     uint32_t total;
     uint64_t cuts[5] = {7, 7, 7, 7, 7}, edges;
     uint64_t sides[5] = {9, 9, 9, 9, 9}, nodes;
+    uint64_t sets[6] = {7, 7, 7, 7, 7, 7}, work[20];
     uint64_t silent_steps, number;
     uint64_t table[CUTLIST_WIDTHS];
     size_t count;
@@ -94,6 +103,32 @@ int main(void)
     CHECK(cutlist_plan_list_trimmed(&plan, cuts, 0, sides, 0, &count) == CUTLIST_NOT_TRIMMED && count == 0);
     CHECK(memcmp(cuts, cuts_listed, sizeof cuts) == 0);
     plan.nodes = 4;
+
+    /* Rooms 1 and 3: what silences one of them needs 7 work rows, what silences both 19. */
+    memset(work, 0xEE, sizeof work);
+    CHECK(cutlist_plan_list_any(&plan, rooms, 0, sets, 6, work, 20, &count) == CUTLIST_BAD_ROOMS && count == 0);
+    CHECK(cutlist_plan_list_any(&plan, rooms, 3, sets, 6, work, 20, &count) == CUTLIST_BAD_ROOMS && count == 0);
+    CHECK(cutlist_plan_list_any(&plan, rooms + 2, 2, sets, 0, work, 0, &count) == CUTLIST_BAD_ROOMS && count == 0);
+    CHECK(cutlist_plan_list_all(&plan, many_rooms, 4, sets, 6, work, 20, &count) == CUTLIST_BAD_ROOMS && count == 0);
+    CHECK(cutlist_plan_list_all(&plan, many_rooms, 9, sets, 6, work, 20, &count) == CUTLIST_BAD_ROOMS && count == 0);
+    CHECK(work[0] == work[19] && work[0] != 0);
+    CHECK(cutlist_plan_list_any(&plan, rooms, 2, sets, 0, work, 6, &count) == CUTLIST_WORK_TOO_SHORT && count == 0);
+    CHECK(memcmp(work, cleared, 6 * sizeof work[0]) == 0 && work[6] != 0);
+    CHECK(cutlist_plan_list_all(&plan, rooms, 2, sets, 6, work, 18, &count) == CUTLIST_WORK_TOO_SHORT && count == 0);
+    CHECK(memcmp(work, cleared, 18 * sizeof work[0]) == 0 && work[18] != 0);
+    CHECK(cutlist_plan_list_any(&plan, rooms, 2, sets, 4, work, 20, &count) == CUTLIST_TOO_MANY_CUTS && count == 0);
+    CHECK(memcmp(work, cleared, sizeof work) == 0);
+    CHECK(memcmp(sets, untouched, sizeof sets) == 0);
+    memset(work, 0xEE, sizeof work);
+    CHECK(cutlist_plan_list_any(&plan, rooms, 2, sets, 6, work, 20, &count) == CUTLIST_ACCEPTED && count == 5);
+    CHECK(memcmp(sets, any_listed, sizeof sets) == 0 && memcmp(work, cleared, sizeof work) == 0);
+    memcpy(sets, untouched, sizeof sets);
+    memset(work, 0xEE, sizeof work);
+    CHECK(cutlist_plan_list_all(&plan, rooms, 2, sets, 2, work, 19, &count) == CUTLIST_ACCEPTED && count == 2);
+    CHECK(memcmp(sets, all_listed, sizeof sets) == 0 && work[18] == 0 && work[19] != 0);
+    plan.sink = 4;
+    CHECK(cutlist_plan_list_all(&plan, rooms, 2, sets, 2, work, 19, &count) == CUTLIST_TERMINAL_OUTSIDE && count == 0);
+    plan.sink = 3;
 
     /* Widths: the list's, and those of any rows; with cable 5 beside cable 0 the two are one pair. */
     memset(table, 0xEE, sizeof table);

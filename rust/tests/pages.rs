@@ -12,10 +12,12 @@ use cutlist_tests::halls;
 use cutlist_tests::lengths;
 use cutlist_tests::lists;
 use cutlist_tests::logs;
+use cutlist_tests::packages;
 use cutlist_tests::plans;
 use cutlist_tests::record::{Record, SLOTS};
-use cutlist_tests::reference::{DOWN, UP};
+use cutlist_tests::reference::{self, DOWN, UP};
 use cutlist_tests::rng::Rng;
+use cutlist_tests::rooms::{self, Goal};
 use cutlist_tests::sides;
 use cutlist_tests::sys;
 use cutlist_tests::sys::capi::{cutlist_decode, on_fields};
@@ -214,6 +216,52 @@ fn assert_same_widths(record: &Record, arrays: &Arrays, rows: &[u64], at: At) ->
     refusal
 }
 
+/// The list for several rooms is what it is elsewhere, with so many rows and work rows lent. Gives the refusal
+/// number.
+fn assert_same_rooms(
+    goal: Goal,
+    record: &Record,
+    arrays: &Arrays,
+    rooms: &[u8],
+    (cut_rows, work_rows): (usize, usize),
+    at: At,
+) -> u8 {
+    let (mut cuts, mut work) = (vec![7; cut_rows], vec![8; work_rows]);
+    let lent_rooms = Lent::new(rooms, at);
+    let (lent_cuts, lent_work) = (Lent::new(&cuts, at), Lent::new(&work, at));
+    let count = Lent::new(&[7usize], at);
+    macro_rules! listed {
+        ($name:ident) => {
+            call!(
+                $name,
+                record,
+                arrays,
+                lent_rooms.place,
+                rooms.len(),
+                lent_cuts.place,
+                cut_rows,
+                lent_work.place,
+                work_rows,
+                count.place
+            )
+        };
+    }
+    let refusal = match goal {
+        Goal::Any => listed!(cutlist_list_any),
+        Goal::All => listed!(cutlist_list_all),
+    };
+    let answer = sys::list_rooms(goal, record, rooms, &mut cuts, &mut work);
+    assert_eq!(
+        (refusal, count.values()[0]),
+        answer,
+        "{rooms:?}, {record:?}"
+    );
+    assert_eq!(lent_cuts.values(), cuts, "{rooms:?}, {record:?}");
+    assert_eq!(lent_work.values(), work, "{rooms:?}, {record:?}");
+    assert_eq!(lent_rooms.values(), rooms);
+    refusal
+}
+
 /// What is written for a log is what is written elsewhere, with one byte less lent than it needs,
 /// with as many and with one more. Gives the refusal numbers.
 fn assert_same_replay(record: &Record, arrays: &Arrays, log: &[u8], at: At) -> Vec<u8> {
@@ -322,6 +370,10 @@ fn assert_same(record: &Record, set: u64, at: At) -> u8 {
     let week = weeks::fit(&mut rng, record);
     assert_same_minutes(record, &arrays, &week, at);
     assert_same_drill(record, &arrays, &drills::fit(&mut rng), at);
+    let rooms = packages::fit(&mut rng, record);
+    for goal in Goal::BOTH {
+        assert_same_rooms(goal, record, &arrays, &rooms, (40, 200), at);
+    }
 
     let count = Lent::new(&[7usize], at);
     let mut plan = [7; 600];
@@ -433,6 +485,46 @@ fn no_list_is_looked_past() {
     }
     tally.assert_only(&[0, 14]);
     tally.assert_each(&[0, 14], 100);
+}
+
+/// Where the last page ends: packages of every length, whole and damaged, with no row and no work row, with
+/// about as many as a page has, with exactly those needed, and with one less of either.
+#[test]
+fn no_rooms_and_no_work_rows_are_looked_past() {
+    const ROWS: usize = PAGE / size_of::<u64>();
+    let mut rng = Rng::new(117);
+    let mut tally = Tally::default();
+    for round in 0..60 {
+        let record = match round % 3 {
+            0 => plans::large(&mut rng),
+            1 => plans::record(&mut rng),
+            _ => plans::small(&mut rng, 12),
+        };
+        let mut rooms = packages::rooms(&mut rng, &record, round % 9);
+        if round % 6 == 0 {
+            packages::damage(&mut rng, &record, &mut rooms);
+        }
+        let both = match reference::rooms(&record, &rooms) {
+            Ok(rising) => rooms::by_sides(&record, &rising, 4 * ROWS),
+            Err(_) => [None, None],
+        };
+        for at in [At::Start, At::End] {
+            let arrays = Arrays::of(&record, at);
+            for (goal, steps) in Goal::BOTH.into_iter().zip(&both) {
+                let mut lent = vec![(0, 0), (1, 1), (ROWS - 1, ROWS), (ROWS + 1, ROWS - 1)];
+                if let Some(steps) = steps {
+                    let (rows, work) = (steps.list.len(), steps.need());
+                    lent.extend([(rows, work), (rows - 1, work), (rows, work - 1)]);
+                }
+                for lent in lent {
+                    let number = assert_same_rooms(goal, &record, &arrays, &rooms, lent, at);
+                    tally.count(number);
+                }
+            }
+        }
+    }
+    tally.assert_only(&[0, 12, 19, 20]);
+    tally.assert_each(&[0, 12, 19, 20], 100);
 }
 
 /// Where the last page ends: every beginning of logs, the empty one and one byte among them, whole

@@ -8,7 +8,8 @@
 //! points but server and room; the last three cannot tell more than 8 rows apart, so at most 60 of
 //! its calls do. The walk by which a plan is found trimmed visits one point in each call, so on a
 //! line at most 63 of them stand above each other, all points but the server; they are gone before
-//! rows are kept.
+//! rows are kept. The lists for several rooms grow near sides and sort too, and keep no rows of their
+//! own.
 
 use std::arch::asm;
 use std::fs;
@@ -22,10 +23,12 @@ use cutlist_tests::halls;
 use cutlist_tests::lengths;
 use cutlist_tests::lists;
 use cutlist_tests::logs;
+use cutlist_tests::packages;
 use cutlist_tests::plans;
 use cutlist_tests::record::Record;
 use cutlist_tests::reference;
 use cutlist_tests::rng::Rng;
+use cutlist_tests::rooms::Goal;
 use cutlist_tests::sides;
 use cutlist_tests::sys::{self, capi, ListCall};
 use cutlist_tests::tally::Tally;
@@ -66,10 +69,11 @@ fn stack_of<F: FnMut()>(mut call: F) -> usize {
     size_of_val(&memory[painted..])
 }
 
-/// Rows lent to the list.
+/// Rows lent to the lists.
 struct Rows {
     cuts: Vec<u64>,
     sides: Vec<Nodes>,
+    work: Vec<u64>,
 }
 
 impl Rows {
@@ -77,6 +81,7 @@ impl Rows {
         Rows {
             cuts: vec![0; ROWS],
             sides: vec![0; ROWS],
+            work: vec![0; ROWS],
         }
     }
 }
@@ -99,6 +104,15 @@ fn list(call: ListCall, r: &Record, rows: &mut Rows, lent: usize) -> (usize, u8)
             &mut count,
         );
     });
+    (stack, refusal)
+}
+
+/// The stack of a list for several rooms with so many rows lent, and as many work rows, and its refusal
+/// number.
+fn list_rooms(goal: Goal, r: &Record, rooms: &[u8], rows: &mut Rows, lent: usize) -> (usize, u8) {
+    let (cuts, work) = (&mut rows.cuts[..lent], &mut rows.work[..lent]);
+    let mut refusal = 0;
+    let stack = stack_of(|| refusal = sys::list_rooms_bare(goal, r, rooms, cuts, work).0);
     (stack, refusal)
 }
 
@@ -270,6 +284,58 @@ fn no_call_takes_more_than_the_header_says() {
         assert_eq!((line.1, circle.1), (0, 0));
         assert_eq!(deepest, line.0.max(circle.0));
     }
+}
+
+/// However many rooms there are, and however many sets and unions are put in order for them. None goes deeper
+/// than the line and the circle of 64.
+#[test]
+fn no_list_for_several_rooms_takes_more_than_the_header_says() {
+    let most = 1024 * said_by_the_header("cutlist_list_any and cutlist_list_all less than ");
+    let mut rows = Rows::new();
+    let mut rng = Rng::new(75);
+    let mut deepest = 0;
+    let mut refusals = Tally::default();
+    let random: Vec<Record> = (0..300).map(|_| plans::large(&mut rng)).collect();
+    for hall in patterns().into_iter().chain(random) {
+        let rooms = packages::fit(&mut rng, &hall);
+        for goal in Goal::BOTH {
+            for lent in [0, 20, 2048] {
+                let (stack, refusal) = list_rooms(goal, &hall, &rooms, &mut rows, lent);
+                deepest = stack.max(deepest);
+                refusals.count(refusal);
+            }
+        }
+    }
+    refusals.assert_only(&[0, 20]);
+    refusals.assert_each(&[0, 20], 300);
+
+    let long = [
+        (halls::line(64, 1), &[63][..]),
+        (halls::line(64, 1), &[56, 57, 58, 59, 60, 61, 62, 63]),
+        (halls::circle(64, &[1]), &[32]),
+        (halls::circle(64, &[1]), &[1, 2, 3, 4, 60, 61, 62, 63]),
+    ];
+    let wide = [
+        (halls::complete(9), &[1, 2, 3, 4, 5, 6, 7, 8][..]),
+        (halls::two_hubs(16), &[17]),
+        (halls::grid(3, 5), &[4, 10]),
+    ];
+    let mut deepest_of = |halls: &[(Record, &[u8])]| {
+        let stacks = halls.iter().flat_map(|(hall, rooms)| {
+            Goal::BOTH.map(|goal| {
+                let (stack, refusal) = list_rooms(goal, hall, rooms, &mut rows, ROWS);
+                assert_eq!(refusal, 0, "{goal:?} of {rooms:?}, {hall:?}");
+                stack
+            })
+        });
+        stacks.max().expect("a hall")
+    };
+    let (long, wide) = (deepest_of(&long), deepest_of(&wide));
+    assert!(
+        deepest.max(wide) <= long,
+        "{deepest} and {wide} bytes, {long}"
+    );
+    assert!(long < most, "{long} bytes");
 }
 
 /// However long a log is, and wherever it is faulty, it takes no more stack than a short one.

@@ -75,19 +75,6 @@ fn the_halls() {
     }
 }
 
-/// The plan with every choice of more cables: as many as there are numbers or fewer, rising by their
-/// ends, since cables that differ in their numbers alone are alike.
-fn laid(plan: &Record, numbers: &[usize], ends: &[(u8, u8)]) -> Vec<Record> {
-    let mut found = vec![plan.clone()];
-    if let [number, numbers @ ..] = numbers {
-        for (place, &(one, other)) in ends.iter().enumerate() {
-            let more = plan.clone().with(*number, one, other);
-            found.extend(laid(&more, numbers, &ends[place..]));
-        }
-    }
-    found
-}
-
 /// Every way to lay up to five cables among two, three and four points, loops and parallel cables
 /// too, for every server and room: refused exactly if some point or present cable is not useful.
 #[test]
@@ -98,7 +85,7 @@ fn all_plans_of_up_to_4_points() {
         let terminals = (0..nodes).flat_map(|one| (0..nodes).map(move |other| (one, other)));
         for (source, sink) in terminals.filter(|(source, sink)| source != sink) {
             let bare = Record::bare(nodes, source, sink);
-            for plan in laid(&bare, &[0, 7, 31, 32, 63], &halls::ends(nodes)) {
+            for plan in plans::laid(&bare, &[0, 7, 31, 32, 63], &halls::ends(nodes)) {
                 let (part, rows) = (brute::relevant(&plan), brute::list(&plan));
                 let (cuts, sides) = lent::stale_rows(&mut rng, rows.len(), rows.len());
                 let number = compare::list_trimmed(&plan, part, Some(&rows), &cuts, &sides);

@@ -78,8 +78,7 @@ impl Asked {
 
 /// How many steps of a drill end without a route, and the final number, step by step and draw by draw.
 fn drilled(plan: &[u8], start: u64, failure: u8, repair: u8, steps: u64) -> (u64, u64) {
-    let cables = plan[5..].chunks_exact(4).filter(|bytes| bytes[0] == 0x43);
-    let ends: Vec<[u8; 2]> = cables.map(|cable| [cable[2], cable[3]]).collect();
+    let ends: Vec<[u8; 2]> = cables_of(plan).into_iter().map(|(_, ends)| ends).collect();
     let mut up = vec![true; ends.len()];
     let (mut number, mut silent) = (u128::from(start), 0);
     for _ in 0..steps {
@@ -93,26 +92,9 @@ fn drilled(plan: &[u8], start: u64, failure: u8, repair: u8, steps: u64) -> (u64
         }
         let left = ends.iter().zip(&up).filter(|(_, up)| **up);
         let left: Vec<[u8; 2]> = left.map(|(ends, _)| *ends).collect();
-        silent += u64::from(!is_reached(&left, plan[3], plan[4]));
+        silent += u64::from(!reached(&left, plan[3]).contains(&plan[4]));
     }
     (silent, number.try_into().expect("64 bits"))
-}
-
-/// Whether one point is reached from another over cables with these ends.
-fn is_reached(cables: &[[u8; 2]], from: u8, to: u8) -> bool {
-    let mut reached = vec![from];
-    let mut looked_at = 0;
-    while looked_at < reached.len() {
-        for [one, other] in cables {
-            for (near, far) in [(one, other), (other, one)] {
-                if *near == reached[looked_at] && !reached.contains(far) {
-                    reached.push(*far);
-                }
-            }
-        }
-        looked_at += 1;
-    }
-    reached.contains(&to)
 }
 
 fn bridge() -> PathBuf {
@@ -178,22 +160,6 @@ impl Drawn {
     /// Any number of 64 bits.
     fn number(&mut self) -> u64 {
         (0..4).fold(0, |number, _| number << 16 | u64::from(self.below(1 << 16)))
-    }
-
-    /// A hall of a few points and cables, of which some are loops, with gaps between their numbers.
-    fn plan(&mut self) -> Vec<u8> {
-        let points = 2 + self.below(6);
-        let server = self.below(points);
-        let room = (server + 1 + self.below(points - 1)) % points;
-        let mut plan = vec![0x50, points as u8, 0x53, server as u8, room as u8];
-        let mut cable = self.below(8);
-        for _ in 0..self.below(14) {
-            let (one, other) = (self.below(points), self.below(points));
-            plan.extend([0x43, cable as u8, one as u8, other as u8]);
-            cable += 1 + self.below(4);
-        }
-        plan.push(0x45);
-        plan
     }
 
     /// One to three settings, at the borders or anywhere, each once.

@@ -27,11 +27,11 @@ fn bytes_of(text: &str) -> Vec<u8> {
 
 /// The ends of a cable, as they stand in the bytes of a plan.
 fn ends_of(plan: &[u8], cable: &str) -> (u8, u8) {
-    let number: u8 = cable.parse().expect("a number");
-    let mut commands = plan[5..].chunks_exact(4);
-    let command = commands.find(|command| command[..2] == [0x43, number]);
-    let ends = &command.expect("the cable")[2..];
-    (ends[0], ends[1])
+    let named: u8 = cable.parse().expect("a number");
+    let mut cables = cables_of(plan).into_iter();
+    let found = cables.find(|(number, _)| *number == named);
+    let (_, [one, other]) = found.expect("the cable");
+    (one, other)
 }
 
 /// The cables of each row of a list, as it is printed.
@@ -189,6 +189,29 @@ fn every_hall_has_as_many_ways_as_its_narrowest_cut_has_cables() {
         numbers.insert(fewest);
     }
     assert!(numbers.is_superset(&[0, 1, 2, 10].into()), "{numbers:?}");
+}
+
+/// The room of each hall alone has the cuts of its list, without their near sides.
+#[test]
+fn every_hall_is_listed_for_its_own_room() {
+    for hall in halls() {
+        let plan = bytes_of(&fs::read_to_string(&hall).expect("text"));
+        let room = plan.get(4).unwrap_or(&1).to_string();
+        let listed = cutlist(&[&hall]);
+        for which in ["any", "all"] {
+            let mut command = Command::new(script());
+            let ended = run(command.args(["rooms", which]).arg(&hall).arg(&room));
+            if listed.status == Some(1) {
+                assert_eq!(ended.status, Some(1));
+                assert_eq!((&ended.out, &ended.err), (&listed.out, &listed.err));
+                continue;
+            }
+            let lines = listed.out.lines();
+            let lines = lines.map(|line| line.split_once(" | ").map_or(line, |(cut, _)| cut));
+            let lines: Vec<&str> = lines.collect();
+            ended.listed(&(lines.join("\n") + "\n"));
+        }
+    }
 }
 
 /// Before any event the room of a hall is heard, unless its list is the one empty cut.

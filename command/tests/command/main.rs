@@ -7,6 +7,7 @@ mod halls;
 mod metres;
 mod program;
 mod replay;
+mod rooms;
 mod running;
 mod streams;
 mod text;

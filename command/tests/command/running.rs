@@ -192,6 +192,31 @@ pub fn two_hubs(between: u8) -> Vec<u8> {
     plan
 }
 
+/// The cables of a plan, each by its number and its ends, as they stand in the plan's bytes.
+pub fn cables_of(plan: &[u8]) -> Vec<(u8, [u8; 2])> {
+    let cables = plan[5..].chunks_exact(4).filter(|bytes| bytes[0] == 0x43);
+    cables
+        .map(|cable| (cable[1], [cable[2], cable[3]]))
+        .collect()
+}
+
+/// The points that are reached from one over cables with these ends.
+pub fn reached(cables: &[[u8; 2]], from: u8) -> Vec<u8> {
+    let mut reached = vec![from];
+    let mut looked_at = 0;
+    while looked_at < reached.len() {
+        for [one, other] in cables {
+            for (near, far) in [(one, other), (other, one)] {
+                if *near == reached[looked_at] && !reached.contains(far) {
+                    reached.push(*far);
+                }
+            }
+        }
+        looked_at += 1;
+    }
+    reached
+}
+
 /// Numbers that look drawn.
 pub struct Drawn(pub u64);
 
@@ -201,5 +226,21 @@ impl Drawn {
         self.0 = self.0.wrapping_mul(6364136223846793005);
         self.0 = self.0.wrapping_add(1442695040888963407);
         (self.0 >> 33) as u32 % bound
+    }
+
+    /// A hall of a few points and cables, of which some are loops, with gaps between their numbers.
+    pub fn plan(&mut self) -> Vec<u8> {
+        let points = 2 + self.below(6);
+        let server = self.below(points);
+        let room = (server + 1 + self.below(points - 1)) % points;
+        let mut plan = vec![0x50, points as u8, 0x53, server as u8, room as u8];
+        let mut cable = self.below(8);
+        for _ in 0..self.below(14) {
+            let (one, other) = (self.below(points), self.below(points));
+            plan.extend([0x43, cable as u8, one as u8, other as u8]);
+            cable += 1 + self.below(4);
+        }
+        plan.push(0x45);
+        plan
     }
 }

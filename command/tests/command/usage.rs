@@ -25,6 +25,9 @@ fn help_is_printed_wherever_it_is_asked_for() {
         &["widths", "missing", "-", "-", "--help"],
         &["ways", "-h"],
         &["ways", "missing", "-", "-", "--help"],
+        &["rooms", "-h"],
+        &["rooms", "any", "-h"],
+        &["rooms", "both", "missing", "256", "--help"],
         &["replay", "-h"],
         &["replay", "missing", "-", "-", "--help"],
         &["works", "-h"],
@@ -46,6 +49,7 @@ fn an_unknown_option_is_a_wrong_use() {
         words(&["trimmed", "missing", option]).failed(2, &["unknown option ", option]);
         words(&["widths", "missing", option]).failed(2, &["unknown option ", option]);
         words(&["ways", "missing", option]).failed(2, &["unknown option ", option]);
+        words(&["rooms", "any", "missing", option]).failed(2, &["unknown option ", option]);
         words(&["replay", "missing", option]).failed(2, &["unknown option ", option]);
         words(&["works", "missing", option]).failed(2, &["unknown option ", option]);
         words(&["drill", "missing", option]).failed(2, &["unknown option ", option]);
@@ -56,7 +60,9 @@ fn an_unknown_option_is_a_wrong_use() {
 #[test]
 fn an_option_of_another_word_is_unknown() {
     for option in ["--start", "--fail", "--repair", "--steps"] {
-        for word in ["trimmed", "widths", "ways", "metres", "replay", "works"] {
+        for word in [
+            "trimmed", "widths", "ways", "rooms", "metres", "replay", "works",
+        ] {
             for asked in [
                 &[word, "missing", option, "1"][..],
                 &[word, option],

@@ -33,6 +33,9 @@ pub const WIDTHS: &str = "cuts 4\nwidth 2 | 2\nwidth 3 | 2\n";
 /// The separate ways of the bridge.
 pub const WAYS: &str = "ways 2\n0 3 | 0 1 3\n1 4 | 0 2 3\nfewest 2\n0 1\n";
 
+/// The minimal sets that silence point 1 or point 3 of the bridge.
+pub const ROOMS: &str = "cuts 5\n0 1\n0 2 3\n1 2 3\n0 2 4\n3 4\n";
+
 /// When the bridge is silent on its one evening.
 pub const EVENING: &str = "minutes 50\n\
     Thu 19:40 to Thu 20:00 | 20 minutes, out 0 1\n\
@@ -45,15 +48,27 @@ pub const DRILLED: &str = "steps 1000\n\
     fail 4 |       120          8\n\
     fail 8 |       173         20\n";
 
-/// Each word with the options that it needs, the second file that it takes, if it takes one, and what
-/// it answers for that plan.
-const WORDS: [(&str, Option<&str>, &str); 7] = [
+/// What a word takes behind the plan.
+#[derive(Clone, Copy)]
+enum Second {
+    /// A file of the repository.
+    File(&'static str),
+    /// Words, which have spaces between them.
+    Words(&'static str),
+}
+
+use Second::{File, Words};
+
+/// Each word with what it needs before the plan, what it takes behind it, if it takes something there,
+/// and what it answers for that plan.
+const WORDS: [(&str, Option<Second>, &str); 8] = [
     ("trimmed", None, BRIDGE_LIST),
     ("widths", None, WIDTHS),
     ("ways", None, WAYS),
+    ("rooms any", Some(Words("3 1")), ROOMS),
     ("metres", None, ALL),
-    ("replay", Some("logs/bridge.hex"), PLAYED),
-    ("works", Some("schedules/one-evening.txt"), EVENING),
+    ("replay", Some(File("logs/bridge.hex")), PLAYED),
+    ("works", Some(File("schedules/one-evening.txt")), EVENING),
     (
         "drill --start 1 --fail 4,8 --repair 16,64 --steps 1000",
         None,
@@ -64,7 +79,7 @@ const WORDS: [(&str, Option<&str>, &str); 7] = [
 /// The words that take any number of files, each with what it answers for the bridge.
 const OF_FILES: [(&str, &str); 3] = [("trimmed", BRIDGE_LIST), ("widths", WIDTHS), ("ways", WAYS)];
 
-/// A word without its options.
+/// A word without what it needs before the plan.
 fn alone(word: &str) -> &str {
     word.split(' ').next().expect("a word")
 }
@@ -73,6 +88,7 @@ fn alone(word: &str) -> &str {
 fn needs(word: &str) -> String {
     let word = alone(word);
     let files = match word {
+        "rooms" => "PLAN and a ROOM",
         "replay" => "PLAN and a LOG",
         "works" => "PLAN and a SCHEDULE",
         "drill" => "PLAN",
@@ -81,27 +97,34 @@ fn needs(word: &str) -> String {
     format!("{word} needs a {files}")
 }
 
-/// Where the second file stands, if there is one.
-fn place(second: Option<&str>) -> Option<PathBuf> {
-    second.map(|second| root().join(second))
+/// What stands behind the plan, a file by its place.
+fn place(second: Option<Second>) -> Vec<PathBuf> {
+    match second {
+        Some(File(file)) => vec![root().join(file)],
+        Some(Words(words)) => words.split(' ').map(PathBuf::from).collect(),
+        None => vec![],
+    }
 }
 
 /// The same behind a line of bash.
-fn behind(second: Option<&str>) -> String {
-    place(second).map_or(String::new(), |second| format!(" '{}'", second.display()))
+fn behind(second: Option<Second>) -> String {
+    let places = place(second).into_iter();
+    places
+        .map(|place| format!(" '{}'", place.display()))
+        .collect()
 }
 
-/// The command with a word, a file, and the second that the word takes.
-fn asked(word: &str, file: &Path, second: Option<&str>) -> Ended {
-    let files = [Some(file.to_path_buf()), place(second)];
+/// The command with a word, a file, and what the word takes behind it.
+fn asked(word: &str, file: &Path, second: Option<Second>) -> Ended {
     run(Command::new(script())
         .args(word.split(' '))
-        .args(files.iter().flatten()))
+        .arg(file)
+        .args(place(second)))
 }
 
-/// The command with words, which have spaces between them, and the second file, and the plan on
+/// The command with words, which have spaces between them, and what stands behind the plan, which is on
 /// standard input.
-fn fed(words: &str, second: Option<&str>, plan: &[u8]) -> Ended {
+fn fed(words: &str, second: Option<Second>, plan: &[u8]) -> Ended {
     let mut command = Command::new(script());
     feed(command.args(words.split(' ')).args(place(second)), plan)
 }
@@ -254,6 +277,8 @@ fn a_file_may_have_any_name() {
         "trimmed",
         "widths",
         "ways",
+        "rooms",
+        "any",
         "metres",
         "replay",
         "works",

@@ -1,2 +1,3 @@
 -- What the border adds: a verdict by its numbers.
 pub mod Judging
+pub mod Rooms

@@ -14,6 +14,8 @@ ghost use Rattle.connectivity.specs.Answers.{PartMeans};
 ghost use Rattle.lengths.specs.Lengths.{TotalMeans};
 ghost use Rattle.listing.specs.List.{Listing, ListMeans};
 ghost use Rattle.listing.specs.Trimmed.{TrimmedListing, TrimmedMeans};
+ghost use Rattle.rooms.specs.declared.Extent.the-variants.{Any, All};
+ghost use Rattle.rooms.specs.Rooms.{RoomsListing, RoomsMean};
 ghost use Rattle.replay.specs.Replay.{ReplayMeans};
 ghost use Rattle.maintenance.specs.Outage.{OutageMeans};
 ghost use Rattle.simulation.specs.Simulation.{SimulationMeans};
@@ -239,6 +241,60 @@ pub extern "C" fn cutlist_list_trimmed(
     let answered = listing::list_trimmed(offered, cuts, sides);
     *count = answered.count;
     answered.refusal
+}
+
+// Lists the minimal sets of edges that silence at least one of the rooms, rising. Gives the refusal's number, 0 if there is none, and the
+// count of rows listed, 0 on refusal, when no row for cuts changes. The work rows are all 0 afterwards, but untouched where record or rooms
+// are refused.
+#[no_mangle]
+pub extern "C" fn cutlist_list_any(
+    nodes: u8,
+    source: u8,
+    sink: u8,
+    present: u64,
+    first: &[u8; 64],
+    second: &[u8; 64],
+    metres: &[u16; 64],
+    rooms: &[u8],
+    cuts: &mut [u64],
+    work: &mut [u64],
+    count: &mut usize,
+) -> u8
+    ensures { λ r. ⌜ RoomsListing Any (assembled nodes source sink present (now (first .entry)) (now (second .entry)) (now (metres .entry))) (now («rooms» .entry)) (now (cuts .entry)) (now (work .entry))
+        r (now (count .exit)) (now (cuts .exit)) (now (work .exit)) ⌝ }
+    ensures means { λ r. ⌜ RoomsMean Any (assembled nodes source sink present (now (first .entry)) (now (second .entry)) (now (metres .entry))) (now («rooms» .entry)) (now (cuts .entry)) (now (work .entry))
+        r (now (count .exit)) (now (cuts .exit)) ⌝ }
+{
+    let with_any = assemble(nodes, source, sink, present, first, second, metres);
+    let silenced_any = rooms::list_any(with_any, rooms, cuts, work);
+    *count = silenced_any.count;
+    silenced_any.refusal
+}
+
+// Lists the minimal sets of edges that silence every one of the rooms, as `cutlist_list_any` those that silence at least one.
+#[no_mangle]
+pub extern "C" fn cutlist_list_all(
+    nodes: u8,
+    source: u8,
+    sink: u8,
+    present: u64,
+    first: &[u8; 64],
+    second: &[u8; 64],
+    metres: &[u16; 64],
+    rooms: &[u8],
+    cuts: &mut [u64],
+    work: &mut [u64],
+    count: &mut usize,
+) -> u8
+    ensures { λ r. ⌜ RoomsListing All (assembled nodes source sink present (now (first .entry)) (now (second .entry)) (now (metres .entry))) (now («rooms» .entry)) (now (cuts .entry)) (now (work .entry))
+        r (now (count .exit)) (now (cuts .exit)) (now (work .exit)) ⌝ }
+    ensures means { λ r. ⌜ RoomsMean All (assembled nodes source sink present (now (first .entry)) (now (second .entry)) (now (metres .entry))) (now («rooms» .entry)) (now (cuts .entry)) (now (work .entry))
+        r (now (count .exit)) (now (cuts .exit)) ⌝ }
+{
+    let with_all = assemble(nodes, source, sink, present, first, second, metres);
+    let silenced_all = rooms::list_all(with_all, rooms, cuts, work);
+    *count = silenced_all.count;
+    silenced_all.refusal
 }
 
 // Plays a link log back. Gives the refusal's number, 0 if there is none, and the count of bytes written, 0 on refusal.

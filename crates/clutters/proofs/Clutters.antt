@@ -5,12 +5,16 @@ use mathlib.Core.Path.{_≡_, refl, sym, _∙_}
 use mathlib.Core.Bool.{Bool, not, _||_}
 use mathlib.Core.List.{List, [], _∷_, _++_, map, List·Memᴰ, List·Memᴰ·head, List·Memᴰ·tail, List·Memᴰ·not-nil, List·Memᴰ·cases-cons, List·Memᴰ·append-cases, List·Memᴰ·eq-of-singleton, Memᴰ·append-left, Memᴰ·append-right, Memᴰ·cast, Memᴰ·map, Memᴰ·of-map}
 use mathlib.Core.Logic.{_⊎_, inl, inr, _↔_, Dec·of-iff, Iff·trans, Iff·symm, Iff·and}
-use Prim.Native.Nat.{ℕ}
+use Prim.Native.Nat.{ℕ, _*_, _≤_}
+use native.Mathlib.Nat.{zero-mul, suc-mul}
+use native.Mathlib.Omega.{arith}
 use lib.Bits.{bitAnd, bitOr}
 use lib.Dec.{T, eqb}
+use lib.ListN.{length, length-append, length-map}
 use Rattle.sequences.specs.Rising.{Rising}
 use Rattle.sequences.specs.Words.{passing}
 use Rattle.sequences.proofs.Tests.{T-dec, T-or, T-not, T-eqb}
+use Rattle.sequences.proofs.Distinct.{rising-distinct, distinct-at-most}
 use Rattle.sequences.proofs.Rising.{rising-unique, in-arranged, arranged-rising}
 use Rattle.sequences.proofs.Words.{T-every, mem-passing}
 use Rattle.bitset.specs.Families.{Holds, Least}
@@ -176,3 +180,15 @@ clutter-least l apart a = (
   },
   least-member l a,
 )
+
+-- No set is added.
+pub tidy-few : (l : List ℕ) → length (tidy l) ≤ length l
+tidy-few l = distinct-at-most (tidy l) l (rising-distinct (tidy l) (tidy-rising l)) (λ a m. least-member l a (in-tidy l a .0 m))
+
+-- There are as many unions as pairs.
+pub unions-count : (l m : List ℕ) → length (unions l m) ≡ length l * length m
+unfolding unions
+unions-count [] m = sym (zero-mul (length m))
+unions-count (s ∷ l) m =
+    length-append (map (bitOr s) m) (unions l m)
+    ∙ omega (arith, length-map m (bitOr s), unions-count l m, suc-mul (length l) (length m))

@@ -67,6 +67,7 @@ use Rattle.text.specs.Text.{refusalLine, maxRows}
 use Rattle.report.specs.Report.{listReport, reportOf}
 use Rattle.report.proofs.Reports.{report-outnumbered, report-complete}
 use Rattle.demands.specs.Endings.{ReaderEnds, PartEnds, JudgingEnds, TotalEnds, WidthsEnds, Kept, ListEnds, TrimmedEnds, ReplayEnds, OutageEnds, SimulationEnds, WriterEnds, ReportEnds}
+use Rattle.demands.proofs.Rooms.{rooms-end}
 use Rattle.demands.specs.Demands.{DemandOne}
 
 -- A record without a fault keeps the rules.
@@ -380,6 +381,7 @@ demand-one = record {
   list = list;
   too-many = λ N stored cuts sides. call-outnumbered N stored cuts sides refl;
   trimmed = trimmed-list;
+  rooms = rooms-end;
   replay = replay;
   outage = outage;
   simulation = simulation;

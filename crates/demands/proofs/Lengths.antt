@@ -149,7 +149,7 @@ module _ (N : Network) (l : List ℕ) where
 
   module _ (a : Accepted N) (b : Accepted M) where
     answers : Alike M N
-    answers = alike M N (b .stored) (a .stored) (b .faultless) (a .faultless) agree (⊆-refl (present N)) (λ k i. refl)
+    answers = alike M N (b .stored) (a .stored) (b .faultless) (a .faultless) agree refl (⊆-refl (present N)) (λ k i. refl)
 
     verdicts : (c : ℕ) → verdictOf M c ≡ verdictOf N c
     verdicts c = go (ℕ-discrete (bitAnd c (present N)) c)

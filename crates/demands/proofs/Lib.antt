@@ -1,6 +1,7 @@
--- The demands, loops, metres, trunks, logs, works, drills and separate ways, what earlier plans keep, then the halls.
-pub mod DemandOne
+-- The demands, several rooms, loops, metres, trunks, logs, works, drills and separate ways, what earlier plans keep, then the halls.
 pub mod DemandTwo
+pub mod Rooms
+pub mod DemandOne
 pub mod DemandThree
 pub mod Alike
 pub mod Loops

@@ -6,7 +6,7 @@ use mathlib.Core.List.{List}
 use mathlib.Core.Logic.{_⊎_, inl, inr, _↔_, Iff·rfl}
 use Prim.Native.Nat.{ℕ, zero, suc, _^_, _<_}
 use native.Mathlib.Omega.{arith}
-use lib.Dec.{T, ltb, eqb}
+use lib.Dec.{T, leb, ltb, eqb}
 use lib.ListN.{length, getD}
 use Rattle.sequences.specs.Words.{every}
 use Rattle.sequences.proofs.Tests.{T-not, T-eqb}
@@ -34,6 +34,8 @@ use Rattle.widths.specs.Widths.{widthsOf}
 use Rattle.listing.specs.List.{mincuts, sourceSides, listRefusal, listedBy}
 use Rattle.trimmed.specs.Trimmed.{trimmedFault}
 use Rattle.listing.specs.Trimmed.{trimmedRefusal, trimmedListedBy}
+use Rattle.rooms.specs.declared.Extent.{Extent}
+use Rattle.rooms.specs.Rooms.{packageFault, needs, roomsRefusal, roomsListedBy}
 use Rattle.replay.specs.Log.{eventCount}
 use Rattle.replay.specs.Replay.{replayRefusal, replayedBy}
 use Rattle.replay.proofs.Events.{LogCase, good, unknown, absent, half, log-case}
@@ -108,7 +110,7 @@ module _ (N : Network) (stored : Stored N) (ok : faultOf N ≡ 0) (k v m : ℕ) 
   as-without = record {
     accepted = ok′;
     read = encode-decode M stored′ ok′;
-    answers = alike M N stored′ stored ok′ ok agree (⊆-insert (present N) k) same;
+    answers = alike M N stored′ stored ok′ ok agree refl (⊆-insert (present N) k) same;
   }
 
 pub loop-added : LoopAdded
@@ -172,6 +174,13 @@ list N cuts sides =
     then-other (faultOf N) (test N) (then-other (11 when not (eqb (length cuts) (length sides)))
     (when-other 11 _ (λ e. omega arith) (omega arith)) (when-other 12 _ (λ e. omega arith) (omega arith)))
 
+rooms : (e : Extent) (N : Network) (ts cuts work : List ℕ) → roomsListedBy e N ts cuts work .refusal ≡ 10 → ⊥
+unfolding roomsListedBy roomsRefusal packageFault
+rooms e N ts cuts work =
+    then-other (packageFault N ts) (then-other (faultOf N) (test N) (when-other 19 _ (λ e. omega arith) (omega arith)))
+    (then-other (20 when not (every (λ n. leb n (length work)) (needs e N ts))) (when-other 20 _ (λ e. omega arith) (omega arith))
+    (when-other 12 _ (λ e. omega arith) (omega arith)))
+
 -- No log has this fault.
 log-fault : {p : ℕ} {log : List ℕ} {r : ℕ} → LogCase p log r → r ≡ 10 → ⊥
 log-fault (good k) e = omega arith
@@ -211,6 +220,7 @@ ten-gone = record {
   widths = rows;
   list = list;
   trimmed = λ N cuts sides. then-other (trimmedFault N) (then-other (faultOf N) (test N) (when-other 26 _ (λ e. omega arith) (omega arith))) (list N cuts sides);
+  rooms = rooms;
   replay = replay;
   outage = outage;
   simulation = λ N n f r steps. then-other (faultOf N) (test N) (when-other 25 _ (λ e. omega arith) (omega arith));

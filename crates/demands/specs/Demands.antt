@@ -1,6 +1,6 @@
 -- The customer's three demands, as statements about the calls. What a call answers and leaves is what its contract says: `decodeOf`,
--- `faultOf`, `relevantOf`, `verdictOf`, `totalOf`, `widthsOf`, `outageOf`, `simulatedBy`, `listedBy` and `trimmedListedBy` with the rows
--- afterwards, `replayedBy` and `encodedBy` with the bytes afterwards, and `reportOf` of the program. What the types of the code say of
+-- `faultOf`, `relevantOf`, `verdictOf`, `totalOf`, `widthsOf`, `outageOf`, `simulatedBy`, `listedBy`, `trimmedListedBy` and `roomsListedBy` with
+-- the rows afterwards, `replayedBy` and `encodedBy` with the bytes afterwards, and `reportOf` of the program. What the types of the code say of
 -- any record, `Stored N`, is in the contract of every call that takes one, and what they say of any bytes, `Bytes s`, in that of the reader.
 -- To believe.
 --
@@ -23,11 +23,13 @@ use Rattle.lengths.specs.Lengths.{totalOf}
 use Rattle.widths.specs.Widths.{widthsOf}
 use Rattle.listing.specs.List.{listedBy, cutRowsAfter, sideRowsAfter}
 use Rattle.listing.specs.Trimmed.{trimmedListedBy, trimmedCutRows, trimmedSideRows}
+use Rattle.rooms.specs.declared.Extent.{Extent}
+use Rattle.rooms.specs.Rooms.{roomsListedBy, roomsRowsAfter, workAfter}
 use Rattle.replay.specs.Replay.{replayedBy, silentAfter}
 use Rattle.maintenance.specs.Outage.{outageOf}
 use Rattle.simulation.specs.Simulation.{simulatedBy}
 use Rattle.report.specs.Report.{reportOf}
-use Rattle.demands.specs.Endings.{ReaderEnds, PartEnds, JudgingEnds, TotalEnds, WidthsEnds, ListEnds, TrimmedEnds, ReplayEnds, OutageEnds, SimulationEnds, WriterEnds, ReportEnds}
+use Rattle.demands.specs.Endings.{ReaderEnds, PartEnds, JudgingEnds, TotalEnds, WidthsEnds, ListEnds, TrimmedEnds, RoomsEnds, ReplayEnds, OutageEnds, SimulationEnds, WriterEnds, ReportEnds}
 
 pub record DemandOne : Type 0 where
   -- The record test finds no fault exactly if the record keeps the rules.
@@ -46,6 +48,8 @@ pub record DemandOne : Type 0 where
       → (listedBy N cuts sides .refusal ≡ 12) ↔ ((faultOf N ≡ 0) × (length cuts ≡ length sides) × Outnumber N (length cuts))
   pub trimmed : (N : Network) → Stored N → (cuts sides : List ℕ)
       → TrimmedEnds N cuts sides (trimmedListedBy N cuts sides) (trimmedCutRows N cuts sides) (trimmedSideRows N cuts sides)
+  pub rooms : (e : Extent) (N : Network) → Stored N → (ts cuts work : List ℕ)
+      → RoomsEnds e N ts cuts work (roomsListedBy e N ts cuts work) (roomsRowsAfter e N ts cuts work) (workAfter N ts work)
   pub replay : (N : Network) → Stored N → (log lent : List ℕ) → ReplayEnds N log lent (replayedBy N log lent) (silentAfter N log lent)
   pub outage : (N : Network) → Stored N → (o w : List ℕ) → OutageEnds N o w (outageOf N o w)
   pub simulation : (N : Network) → Stored N → (n f r steps : ℕ) → SimulationEnds N n f r steps (simulatedBy N n f r steps)

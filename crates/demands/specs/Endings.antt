@@ -13,18 +13,23 @@
 --   Kept n before after              lent rows or bytes: as many as before, and past the first n what they held
 --   ListEnds N cuts sides l cuts′ sides′     listing N into rows that held `cuts` and `sides` gives l and leaves cuts′ and sides′
 --   TrimmedEnds N cuts sides l cuts′ sides′  listing N, trimmed already, into such rows gives l and leaves cuts′ and sides′
+--   RoomsEnds e N ts cuts work l cuts′ work′     listing N for the rooms ts, by the extent e, into rows that held `cuts`, with work rows that held
+--                                    `work`, gives l and leaves cuts′ and work′
 --   ReplayEnds N log lent a after    playing the log back for N into bytes that held `lent` gives a and leaves `after`
 --   OutageEnds N o w a               counting the silent minutes of N with opening windows o and works windows w gives a
 --   SimulationEnds N n f r steps a   drilling N from the start number n on, at the failure setting f and the repair setting r, gives a
 --   WriterEnds N lent e after        writing N into a buffer that held `lent` gives e and leaves `after`
 --   ReportEnds s t                   for the input s the list program prints t
-use mathlib.Core.List.{List}
+use mathlib.Core.List.{List, List·Memᴰ}
 use mathlib.Core.Logic.{_⊎_, _↔_}
 use mathlib.Core.Path.{_≡_}
 use Prim.Native.Nat.{ℕ, suc, _%_, _≤_, _<_}
 use lib.Dec.{T}
 use lib.ListN.{length, getD, drop, replicate}
+use Rattle.sequences.specs.Distinct.{More}
+use Rattle.sequences.specs.Rising.{RisingRows}
 use Rattle.sequences.specs.Words.{onto}
+use Rattle.bitset.specs.Families.{Least}
 use Rattle.bitset.specs.Members.{_∈_, _⊆_}
 use Rattle.network.specs.declared.Network.{Network}
 use Rattle.network.specs.Record.{among, Stored, faultOf, present}
@@ -42,6 +47,9 @@ use Rattle.lengths.specs.Lengths.{totalMetres}
 use Rattle.widths.specs.declared.Widths.{Widths}
 use Rattle.widths.specs.Widths.{widthTable}
 use Rattle.listing.specs.declared.Listed.{Listed}
+use Rattle.rooms.specs.declared.Extent.{Extent}
+use Rattle.rooms.specs.Silences.{Silences, Package}
+use Rattle.rooms.specs.Rooms.{needs}
 use Rattle.replay.specs.declared.Replayed.{Replayed}
 use Rattle.replay.specs.Log.{eventCount, edgeAt, downAfter, Command, GoodEvents, LogRules}
 use Rattle.replay.specs.Replay.{Tells}
@@ -101,6 +109,19 @@ pub data TrimmedEnds (N : Network) (cuts sides : List ℕ) : Listed → List ℕ
   listed : (l : Listed) (cuts′ sides′ : List ℕ) → Rules N → Trimmed N → ListEnds N cuts sides l cuts′ sides′ → TrimmedEnds N cuts sides l cuts′ sides′
   faulty : 0 < faultOf N → TrimmedEnds N cuts sides (record { refusal = faultOf N; count = 0 }) cuts sides
   untrimmed : Rules N → Untrimmed N → TrimmedEnds N cuts sides (record { refusal = 26; count = 0 }) cuts sides
+
+-- The least sets that silence the rooms, and later rows as they were; 19 for rooms that are no package, then 20 for a step that needs more
+-- work rows than are lent, then 12 for more sets than rows. The work rows are as they were where record or rooms are refused, and else all 0.
+pub data RoomsEnds (e : Extent) (N : Network) (ts cuts work : List ℕ) : Listed → List ℕ → List ℕ → Type 0 where
+  complete : (n : ℕ) (cuts′ : List ℕ) → Rules N → Package N ts → ((k : ℕ) → List·Memᴰ k (needs e N ts) → k ≤ length work)
+      → (More (Least (Silences e N ts)) (length cuts) → ⊥) → RisingRows (Least (Silences e N ts)) n cuts′ → Kept n cuts cuts′
+      → RoomsEnds e N ts cuts work (record { refusal = 0; count = n }) cuts′ (replicate (length work) 0)
+  faulty : 0 < faultOf N → RoomsEnds e N ts cuts work (record { refusal = faultOf N; count = 0 }) cuts work
+  no-package : Rules N → (Package N ts → ⊥) → RoomsEnds e N ts cuts work (record { refusal = 19; count = 0 }) cuts work
+  short : Rules N → Package N ts → (k : ℕ) → List·Memᴰ k (needs e N ts) → length work < k
+      → RoomsEnds e N ts cuts work (record { refusal = 20; count = 0 }) cuts (replicate (length work) 0)
+  outnumbered : Rules N → Package N ts → ((k : ℕ) → List·Memᴰ k (needs e N ts) → k ≤ length work) → More (Least (Silences e N ts)) (length cuts)
+      → RoomsEnds e N ts cuts work (record { refusal = 12; count = 0 }) cuts (replicate (length work) 0)
 
 -- For each event whether the room is silent after it, and later bytes as they were; 18 for more whole events than bytes; then the first
 -- event that is not good decides, 16 for its command before 17 for its edge, and half an event behind good ones is 16.

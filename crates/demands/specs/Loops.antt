@@ -21,6 +21,8 @@ use Rattle.lengths.specs.Lengths.{totalOf}
 use Rattle.widths.specs.Widths.{widthsOf}
 use Rattle.listing.specs.List.{listedBy}
 use Rattle.listing.specs.Trimmed.{trimmedListedBy}
+use Rattle.rooms.specs.declared.Extent.{Extent}
+use Rattle.rooms.specs.Rooms.{roomsListedBy}
 use Rattle.replay.specs.Replay.{replayedBy}
 use Rattle.maintenance.specs.Outage.{outageOf}
 use Rattle.simulation.specs.Simulation.{simulatedBy}
@@ -52,6 +54,7 @@ pub record TenGone : Type 0 where
   pub widths : (N : Network) (cuts : List ℕ) → widthsOf N cuts .refusal ≡ 10 → ⊥
   pub list : (N : Network) (cuts sides : List ℕ) → listedBy N cuts sides .refusal ≡ 10 → ⊥
   pub trimmed : (N : Network) (cuts sides : List ℕ) → trimmedListedBy N cuts sides .refusal ≡ 10 → ⊥
+  pub rooms : (e : Extent) (N : Network) (ts cuts work : List ℕ) → roomsListedBy e N ts cuts work .refusal ≡ 10 → ⊥
   pub replay : (N : Network) (log lent : List ℕ) → replayedBy N log lent .refusal ≡ 10 → ⊥
   pub outage : (N : Network) (o w : List ℕ) → outageOf N o w .refusal ≡ 10 → ⊥
   pub simulation : (N : Network) (n f r steps : ℕ) → simulatedBy N n f r steps .refusal ≡ 10 → ⊥

@@ -33,6 +33,9 @@ pub const TOO_MANY_WINDOWS: u8 = 23; // more than 14 opening windows, or more th
 
 pub const BAD_WINDOW: u8 = 24; // a window whose start is not below its end or whose end is above 10,080, or a piece of one
 
+// By the one who chose the rooms.
+pub const BAD_ROOMS: u8 = 19; // no room, more than 8, a room twice, the server, or a point outside the plan
+
 // By the one who set the drill.
 pub const TOO_MANY_STEPS: u8 = 25; // more than 65,535 steps
 
@@ -48,5 +51,7 @@ pub const EDGE_NOT_PRESENT: u8 = 14; // a given set or row holds a cable not pre
 pub const BUFFER_TOO_SHORT: u8 = 15; // the plan needs more bytes than were lent
 
 pub const TOO_MANY_EVENTS: u8 = 18; // more whole events than bytes lent
+
+pub const WORK_TOO_SHORT: u8 = 20; // a step for several rooms needs more work rows than were lent
 
 pub const NOT_TRIMMED: u8 = 26; // some point or present cable is not useful

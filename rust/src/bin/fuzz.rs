@@ -10,9 +10,10 @@
 //!   --file FILE    the bytes of a file alone
 //!   --smoke        a fixed seed and number of cases, which must meet every kind of answer
 //!   --digest       one number for all that the library answers on the cases of the smoke run, or on
-//!                  those of --seed and --cases, but for the lists of trimmed plans, logs, weeks, drills
-//!                  and widths
-//!   --trimmed      with --digest: the number of these lists alone
+//!                  those of --seed and --cases, but for the lists of trimmed plans, lists for several
+//!                  rooms, logs, weeks, drills and widths
+//!   --trimmed      with --digest: the number of the lists of trimmed plans alone
+//!   --rooms        with --digest: the number of the lists for several rooms alone
 //!   --replay       with --digest: the number of what is written for logs alone
 //!   --works        with --digest: the number of the silent minutes of weeks alone
 //!   --drills       with --digest: the number of what comes of drills alone
@@ -33,7 +34,7 @@ use std::time::{Duration, Instant, SystemTime, UNIX_EPOCH};
 use cutlist_tests::fuzz::case::Case;
 use cutlist_tests::fuzz::counts::Counts;
 use cutlist_tests::fuzz::digest::{
-    digest, drills_digest, replay_digest, trimmed_digest, widths_digest, works_digest,
+    digest, drills_digest, replay_digest, rooms_digest, trimmed_digest, widths_digest, works_digest,
 };
 use cutlist_tests::fuzz::search::{panic_of, search, Difference};
 use cutlist_tests::fuzz::shrinking::shrink;
@@ -59,6 +60,7 @@ struct Options {
     smoke: bool,
     digest: bool,
     trimmed: bool,
+    rooms: bool,
     replay: bool,
     works: bool,
     drills: bool,
@@ -83,6 +85,7 @@ impl Options {
                 "--smoke" => options.smoke = true,
                 "--digest" => options.digest = true,
                 "--trimmed" => options.trimmed = true,
+                "--rooms" => options.rooms = true,
                 "--replay" => options.replay = true,
                 "--works" => options.works = true,
                 "--drills" => options.drills = true,
@@ -94,6 +97,7 @@ impl Options {
         }
         for (given, name) in [
             (options.trimmed, "--trimmed"),
+            (options.rooms, "--rooms"),
             (options.replay, "--replay"),
             (options.works, "--works"),
             (options.drills, "--drills"),
@@ -107,6 +111,7 @@ impl Options {
         }
         let alone = [
             options.trimmed,
+            options.rooms,
             options.replay,
             options.works,
             options.drills,
@@ -115,7 +120,7 @@ impl Options {
         match alone.into_iter().filter(|&given| given).count() {
             0 | 1 => Ok(options),
             _ => Err(
-                "--trimmed, --replay, --works, --drills and --widths are numbers of their own"
+                "--trimmed, --rooms, --replay, --works, --drills and --widths are numbers of their own"
                     .to_string(),
             ),
         }
@@ -150,6 +155,7 @@ fn tell_digest(options: &Options) -> ExitCode {
         .filter(|bytes| !options.without_lengths || !bytes.contains(&0x4D));
     let number = match options {
         Options { trimmed: true, .. } => trimmed_digest(cases),
+        Options { rooms: true, .. } => rooms_digest(cases),
         Options { replay: true, .. } => replay_digest(cases),
         Options { works: true, .. } => works_digest(cases),
         Options { drills: true, .. } => drills_digest(cases),
@@ -253,6 +259,7 @@ fn tell(bytes: &[u8]) -> bool {
         case.week.openings, case.week.works
     );
     println!("{:?}", case.drill);
+    println!("rooms {:?}", case.rooms);
     let difference = ask_alone(bytes);
     match &difference {
         Some(message) => println!("differs: {message}"),

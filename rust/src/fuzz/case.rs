@@ -7,8 +7,9 @@ use std::array;
 use crate::brute::members;
 use crate::drills::Drill;
 use crate::logs;
+use crate::packages;
 use crate::record::{Record, MOST_NODES, SLOTS};
-use crate::reference::{MOST_OPENINGS, MOST_WORKS};
+use crate::reference::{MOST_OPENINGS, MOST_ROOMS, MOST_WORKS};
 use crate::rng::Rng;
 use crate::weeks::{self, Week};
 
@@ -37,10 +38,12 @@ pub struct Case<'a> {
     /// The record for the other calls.
     pub record: Record,
     /// The buffer lent to the writer, measured from the plan's length and the longest plan's, with
-    /// or without lengths.
+    /// or without lengths. The work rows lent to a list for several rooms, measured from what it needs
+    /// and the most that are lent.
     pub buffer: Size,
     /// The cut rows lent to the list call, measured from the number of cuts and the number of sets
-    /// of useful points between server and room.
+    /// of useful points between server and room; for several rooms from the number of sets and the
+    /// work rows needed.
     pub rows: Size,
     /// So many more side rows than cut rows, or fewer.
     pub more_sides: isize,
@@ -54,6 +57,9 @@ pub struct Case<'a> {
     /// The drill: the set's fourth byte says how many steps there are, the fifth and the sixth are the
     /// settings, and without these three the set is the start number.
     pub drill: Drill,
+    /// The rooms of a list for several: the set's seventh byte says how many there are, and its eighth
+    /// which they are.
+    pub rooms: Vec<u8>,
 }
 
 /// A size: measured from what is needed, from the least that always suffices, or from nothing.
@@ -122,7 +128,7 @@ impl Case<'_> {
             ..record(&fields)
         };
 
-        let [length, openings, works, steps, failure, repair, ..] = set.to_le_bytes();
+        let [length, openings, works, steps, failure, repair, rooms, which] = set.to_le_bytes();
         let log = logs::log(&mut Rng::new(set >> 8), &record, length.into());
         // Up to two windows more than are fit, and pieces of them.
         let week = weeks::week(
@@ -137,6 +143,12 @@ impl Case<'_> {
             repair,
             steps: u64::from(steps) % 64,
         };
+        // From none to one more than are fit.
+        let rooms = packages::rooms(
+            &mut Rng::numbered(which.into(), 5),
+            &record,
+            usize::from(rooms) % (MOST_ROOMS + 2),
+        );
 
         Case {
             body,
@@ -154,6 +166,7 @@ impl Case<'_> {
             log,
             week,
             drill,
+            rooms,
         }
     }
 

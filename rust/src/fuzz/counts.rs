@@ -1,5 +1,6 @@
 //! What was asked and answered.
 
+use std::collections::BTreeSet;
 use std::fmt;
 
 use crate::answers::Part;
@@ -9,8 +10,9 @@ use crate::drills::Drill;
 use crate::plans;
 use crate::record::{Record, MOST_NODES, SLOTS};
 use crate::reference::{
-    self, FAULTS, LONGEST_PLAN, MOST_OPENINGS, MOST_STEPS, MOST_WORKS, READING, WEEK,
+    self, FAULTS, LONGEST_PLAN, MOST_OPENINGS, MOST_ROOMS, MOST_STEPS, MOST_WORKS, READING, WEEK,
 };
+use crate::rooms::{self, Goal, Steps};
 use crate::separate;
 use crate::sides;
 use crate::tally::{Tally, Verdicts};
@@ -31,6 +33,8 @@ pub struct Counts {
     pub metres: Tally,
     pub list: Tally,
     pub list_trimmed: Tally,
+    pub list_any: Tally,
+    pub list_all: Tally,
     pub replay: Tally,
     pub silent_minutes: Tally,
     pub simulate: Tally,
@@ -57,6 +61,25 @@ pub struct Counts {
     pub most_trimmed_points: u8,
     pub untrimmed_by_loops: u64,
     pub untrimmed_with_other_rows: u64,
+    /// Lists for so many rooms, from one on. Of those for several: the ones with more than one set, to
+    /// each goal; the ones with a room that has no route, beside others that have one and alone; and the
+    /// most sets.
+    pub rooms_listed: [u64; MOST_ROOMS],
+    pub longer_for_rooms: [u64; 2],
+    pub rooms_without_a_route: [u64; 2],
+    pub most_sets: usize,
+    /// Lists for several rooms with exactly the work rows needed; refusals with one less, for a step
+    /// between, and for the last one; refusals for the first room's list; those where the rows would not
+    /// suffice either; and the most work rows that a list needed.
+    pub exact_work: u64,
+    pub one_too_few: [u64; 2],
+    pub first_too_long: u64,
+    pub short_both_ways: u64,
+    pub most_work: usize,
+    /// Packages refused for no room, for too many, for a room twice, for the server and for a point outside,
+    /// each perhaps for several of these; and such on plans with a fault, which comes first.
+    pub bad_rooms: [u64; 5],
+    pub faults_before_rooms: u64,
     /// Plans read that have a length, and the bytes of the longest.
     pub measured_plans: u64,
     pub most_bytes: usize,
@@ -195,6 +218,82 @@ impl Counts {
             }
             _ => (),
         }
+    }
+
+    /// Notes the answer to a package of rooms with so many rows and work rows lent; its list, if it was known
+    /// what it needs.
+    pub fn listed_for(
+        &mut self,
+        goal: Goal,
+        record: &Record,
+        rooms: &[u8],
+        steps: Option<&Steps>,
+        lent: (usize, usize),
+        number: u8,
+    ) {
+        match goal {
+            Goal::Any => self.list_any.count(number),
+            Goal::All => self.list_all.count(number),
+        }
+        match (number, steps) {
+            (0, Some(steps)) => self.sets_listed(goal, record, rooms, steps, lent.1),
+            (20, Some(steps)) => self.work_too_short(steps, lent),
+            (12 | 20, _) => (),
+            _ => {
+                let different: BTreeSet<u8> = rooms.iter().copied().collect();
+                let ways = [
+                    rooms.is_empty(),
+                    rooms.len() > MOST_ROOMS,
+                    different.len() < rooms.len(),
+                    rooms.contains(&record.source),
+                    rooms.iter().any(|&room| room >= record.nodes),
+                ];
+                if number == 19 {
+                    for (bad, way) in self.bad_rooms.iter_mut().zip(ways) {
+                        *bad += u64::from(way);
+                    }
+                } else {
+                    self.faults_before_rooms += u64::from(ways.contains(&true));
+                }
+            }
+        }
+    }
+
+    /// Notes a list for rooms.
+    fn sets_listed(
+        &mut self,
+        goal: Goal,
+        record: &Record,
+        rooms: &[u8],
+        steps: &Steps,
+        work_rows: usize,
+    ) {
+        self.rooms_listed[rooms.len() - 1] += 1;
+        self.most_work = self.most_work.max(steps.need());
+        if rooms.len() == 1 {
+            return;
+        }
+        self.longer_for_rooms[goal as usize] += u64::from(steps.list.len() > 1);
+        self.most_sets = self.most_sets.max(steps.list.len());
+        self.exact_work += u64::from(steps.need() == work_rows);
+        let is_heard = |&&room: &&u8| rooms::is_heard(record, room);
+        match rooms.iter().filter(is_heard).count() {
+            0 => self.rooms_without_a_route[1] += 1,
+            heard => self.rooms_without_a_route[0] += u64::from(heard < rooms.len()),
+        }
+    }
+
+    /// Notes a list for rooms that was refused for want of work rows.
+    fn work_too_short(&mut self, steps: &Steps, (cut_rows, work_rows): (usize, usize)) {
+        let last = steps.needs.len() - 1;
+        match steps.too_short(work_rows).expect("a step") {
+            0 => self.first_too_long += 1,
+            step if steps.need() == work_rows + 1 => {
+                self.one_too_few[usize::from(step == last)] += 1;
+            }
+            _ => (),
+        }
+        self.short_both_ways += u64::from(cut_rows < steps.list.len());
     }
 
     /// Notes the answer to a log with so many bytes lent, and what was written.
@@ -340,7 +439,8 @@ impl Counts {
     }
 
     /// Every refusal of every function occurred and no other, every verdict, short and long lists,
-    /// long ways, loops, trimmed halls, lengths, logs, weeks, drills, widths and separate ways.
+    /// long ways, loops, trimmed halls, several rooms, lengths, logs, weeks, drills, widths and separate
+    /// ways.
     pub fn assert_wide(&self) {
         for (tally, of_the_plan, more) in [
             (&self.decode, READING, &[][..]),
@@ -351,6 +451,8 @@ impl Counts {
             (&self.metres, FAULTS, &[14]),
             (&self.list, FAULTS, &[11, 12]),
             (&self.list_trimmed, FAULTS, &[26, 11, 12]),
+            (&self.list_any, FAULTS, &[19, 20, 12]),
+            (&self.list_all, FAULTS, &[19, 20, 12]),
             (&self.replay, FAULTS, &[16, 17, 18]),
             (&self.silent_minutes, FAULTS, &[17, 23, 24]),
             (&self.simulate, FAULTS, &[25]),
@@ -377,6 +479,24 @@ impl Counts {
         assert_eq!(self.most_trimmed_points, MOST_NODES, "{self}");
         assert!(self.untrimmed_by_loops >= 20_000, "{self}");
         assert!(self.untrimmed_with_other_rows >= 10_000, "{self}");
+        for tally in [&self.list_any, &self.list_all] {
+            tally.assert_each(&[0, 19, 20], 20_000);
+            tally.assert_each(&[12], 2_000);
+        }
+        let kinds = [
+            &self.rooms_listed[..],
+            &self.longer_for_rooms,
+            &self.rooms_without_a_route,
+            &self.one_too_few,
+            &self.bad_rooms,
+        ];
+        assert!(kinds.concat().iter().all(|&count| count >= 2_000), "{self}");
+        assert!(self.most_sets >= 1_000, "{self}");
+        assert!(self.exact_work >= 20_000, "{self}");
+        assert!(self.first_too_long >= 10_000, "{self}");
+        assert!(self.short_both_ways >= 2_000, "{self}");
+        assert!(self.most_work >= 1_900, "{self}");
+        assert!(self.faults_before_rooms >= 20_000, "{self}");
         assert!(self.measured_plans >= 5_000, "{self}");
         assert_eq!(self.most_bytes, LONGEST_PLAN, "{self}");
         assert!(self.absent_measured >= 300, "{self}");
@@ -456,6 +576,8 @@ impl fmt::Display for Counts {
             ("metres", &self.metres),
             ("list", &self.list),
             ("list_trimmed", &self.list_trimmed),
+            ("list_any", &self.list_any),
+            ("list_all", &self.list_all),
             ("replay", &self.replay),
             ("silent_minutes", &self.silent_minutes),
             ("simulate", &self.simulate),
@@ -479,6 +601,12 @@ impl fmt::Display for Counts {
              {} halls with a loop, {} of them with one at a useful point, {} with one added; \
              {} listed as trimmed, {} of them without a route, of up to {} points; \
              {} not trimmed for their loops alone, {} not trimmed with different numbers of rows; \
+             lists for 1 room to {MOST_ROOMS}: {:?}; of those for several, to silence one of them and all, {:?} with more \
+             than one set, up to {}; {:?} with a room without a route beside others and with such alone; \
+             {} with exactly the work rows needed, of up to {}; refused with one less for a step between and \
+             for the last {:?}, {} for the first room's list, {} with too few rows besides; \
+             packages refused for no room, too many, one twice, the server and a point outside: {:?}, \
+             {} behind a fault of the plan; \
              {} measured plans, plans of up to {} bytes, {} records with metres of absent cables alone; \
              {} totals above 65535, up to {}; \
              events played back: {} heard, {} silent, {} that silence, {} that bring back, {} repeats, up to {} in a log; \
@@ -513,6 +641,17 @@ impl fmt::Display for Counts {
             self.most_trimmed_points,
             self.untrimmed_by_loops,
             self.untrimmed_with_other_rows,
+            self.rooms_listed,
+            self.longer_for_rooms,
+            self.most_sets,
+            self.rooms_without_a_route,
+            self.exact_work,
+            self.most_work,
+            self.one_too_few,
+            self.first_too_long,
+            self.short_both_ways,
+            self.bad_rooms,
+            self.faults_before_rooms,
             self.measured_plans,
             self.most_bytes,
             self.absent_measured,

@@ -3,19 +3,22 @@
 //! it was. The reference has no part in it, and neither have names and types: a number counts as its
 //! eight bytes, whatever its width. Lengths count where there are any: a case without them gives the
 //! number that it gave before plans had them. The lists of trimmed plans have a number of their own,
-//! and so have the logs, the silent minutes of weeks, the drills and the width tables.
+//! and so have the lists for several rooms, the logs, the silent minutes of weeks, the drills and the
+//! width tables.
 
 use crate::answers::Nodes;
 use crate::brute::members;
 use crate::fuzz::case::{self, Case};
 use crate::fuzz::questions::{
-    self, ample, drills, lent_bytes, lent_rows, logs, sets, weeks, LONGEST_LIST,
+    self, ample, drills, lent_bytes, lent_rows, lent_to_rooms, logs, most_work, packages, sets,
+    weeks, LONGEST_LIST,
 };
 use crate::lent;
 use crate::plans;
 use crate::record::Record;
 use crate::reference::Refusal;
 use crate::rng::Rng;
+use crate::rooms::Goal;
 use crate::sys;
 
 /// FNV-1a of 64 bits. Each step can be undone, so that one byte changed always changes the number.
@@ -58,6 +61,37 @@ pub fn trimmed_digest(cases: impl IntoIterator<Item = Vec<u8>>) -> u64 {
         if refusal == 0 {
             let (plan, _) = plans::trimmed(&mut rng, &case.record, part);
             lists(sys::list_trimmed, case, &plan, &mut rng, digest);
+        }
+    })
+}
+
+/// The number of their lists for several rooms, of rows and of work rows: with as many lent as are ever lent,
+/// with as many work rows as there are sets, and with one row less.
+pub fn rooms_digest(cases: impl IntoIterator<Item = Vec<u8>>) -> u64 {
+    digest_of(cases, |case, digest| {
+        let mut rng = Rng::numbered(case.set, 8);
+        let most = most_work(case);
+        for rooms in packages(case) {
+            for goal in Goal::BOTH {
+                let mut list = |(cut_rows, work_rows)| {
+                    let [mut cuts, mut work] =
+                        [cut_rows, work_rows].map(|rows| lent::stale(&mut rng, rows));
+                    let (refusal, count) =
+                        sys::list_rooms(goal, &case.record, &rooms, &mut cuts, &mut work);
+                    digest.number(refusal);
+                    digest.number(count as u64);
+                    digest.numbers(&cuts);
+                    digest.numbers(&work);
+                    count
+                };
+                let sets = list((most, most));
+                let needed = (sets > 0).then_some((sets, most));
+                for lent in lent_to_rooms(case, needed, most) {
+                    list(lent);
+                }
+                list((sets.saturating_sub(1), most));
+                list((sets, sets));
+            }
         }
     })
 }
@@ -128,7 +162,8 @@ fn digest_of(
     digest.0
 }
 
-/// Asks every function but those for trimmed plans, for logs, for weeks, for drills and for widths.
+/// Asks every function but those for trimmed plans, for several rooms, for logs, for weeks, for drills and
+/// for widths.
 fn answers(case: &Case, digest: &mut Digest) {
     let record = &case.record;
     let mut rng = Rng::new(case.set);

@@ -8,9 +8,11 @@ use crate::fuzz::counts::Counts;
 use crate::lent;
 use crate::lists;
 use crate::logs;
+use crate::packages;
 use crate::record::{Record, SLOTS};
-use crate::reference::{LONGEST_PLAN, MOST_STEPS};
+use crate::reference::{self, LONGEST_PLAN, MOST_STEPS};
 use crate::rng::Rng;
+use crate::rooms::{self, Goal};
 use crate::weeks::{self, Week};
 use crate::{brute, compare, plans, separate, sides, sys};
 
@@ -74,6 +76,7 @@ fn on_the_record(case: &Case, counts: &mut Counts) {
     playing_back(case, &cuts, is_silent, counts);
     counting_minutes(case, &cuts, is_silent, counts);
     drilling(case, is_silent, counts);
+    several_rooms(case, counts);
     if !cuts.is_empty() {
         counts.listed(cuts.len(), known.part);
     }
@@ -146,6 +149,28 @@ fn drilling(case: &Case, is_silent: impl Fn(u64) -> bool + Copy, counts: &mut Co
     for drill in drills(case) {
         let (number, silent) = compare::simulate(record, &drill, is_silent);
         counts.drilled(record, &drill, number, &silent);
+    }
+}
+
+fn several_rooms(case: &Case, counts: &mut Counts) {
+    let record = &case.record;
+    let mut rng = Rng::numbered(case.set, 7);
+    let most = most_work(case);
+    for rooms in packages(case) {
+        let both = match reference::rooms(record, &rooms) {
+            Err(_) => [None, None],
+            Ok(rising) if is_small(record) => rooms::by_routes(record, &rising, most),
+            Ok(rising) => rooms::by_sides(record, &rising, most),
+        };
+        for (goal, steps) in Goal::BOTH.into_iter().zip(&both) {
+            let steps = steps.as_ref();
+            let needed = steps.map(|steps| (steps.list.len(), steps.need()));
+            for lent in lent_to_rooms(case, needed, most) {
+                let [cuts, work] = [lent.0, lent.1].map(|rows| lent::stale(&mut rng, rows));
+                let number = compare::list_rooms(goal, record, &rooms, steps, &cuts, &work);
+                counts.listed_for(goal, record, &rooms, steps, lent, number);
+            }
+        }
     }
 }
 
@@ -292,6 +317,41 @@ pub fn drills(case: &Case) -> Vec<Drill> {
     ]
 }
 
+/// The packages of rooms to list for: that of the case, and that damaged.
+pub fn packages(case: &Case) -> [Vec<u8>; 2] {
+    let mut damaged = case.rooms.clone();
+    packages::damage(&mut Rng::numbered(case.set, 5), &case.record, &mut damaged);
+    [case.rooms.clone(), damaged]
+}
+
+/// The most work rows for which the reference makes a list for several rooms: few, so that it answers soon,
+/// and now and then many. Rooms that need more get no more, and the answer can only be 20.
+pub fn most_work(case: &Case) -> usize {
+    match Rng::numbered(case.set, 6).once_in(32) {
+        true => LONGEST_LIST,
+        false => 200,
+    }
+}
+
+/// The numbers of rows and of work rows to lend for several rooms: those of the case, and, if it is known
+/// what is needed, exactly that, and one work row less.
+pub fn lent_to_rooms(
+    case: &Case,
+    needed: Option<(usize, usize)>,
+    most: usize,
+) -> Vec<(usize, usize)> {
+    let Some((rows, work)) = needed else {
+        let [rows, work] = [(case.rows, 20), (case.buffer, most)]
+            .map(|(size, most)| size.measured(most, most).min(most));
+        return vec![(rows, work)];
+    };
+    let of_the_case = (
+        case.rows.measured(rows, work),
+        case.buffer.measured(work, most),
+    );
+    vec![of_the_case, (rows, work), (rows, work - 1)]
+}
+
 /// The lists to count by width: any words, rows of the record's cables, those with one cable that it
 /// has not in the first row, the middle one or the last, and the list, if it is known, or no row.
 pub fn lists(case: &Case, cuts: &[u64]) -> Vec<Vec<u64>> {
@@ -327,6 +387,11 @@ pub fn ample(part: Part) -> usize {
     }
 }
 
+/// Whether a hall has few cables: brute force takes a moment on few, and forever on many.
+fn is_small(record: &Record) -> bool {
+    record.present.count_ones() <= 12
+}
+
 /// What the reference says of a record.
 struct Known {
     part: Part,
@@ -341,8 +406,7 @@ struct Known {
 impl Known {
     /// Of a record without fault.
     fn of(record: &Record, lent: Size) -> Known {
-        // Brute force takes a moment on few cables, and forever on many.
-        if record.present.count_ones() <= 12 {
+        if is_small(record) {
             let part = brute::relevant(record);
             return Known {
                 part,
