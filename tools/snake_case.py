@@ -13,7 +13,8 @@ import re
 import sys
 
 TOKEN = re.compile(r"[^\s(){}\[\];,.:⌜⌝|`\"'*]+")
-CAMEL = re.compile(r"(?:^|[-+])[a-zμ][a-z0-9_]*[a-z0-9]?[A-Z]")
+# A capital behind `_` is a fact in a name of the kit, and stays.
+CAMEL = re.compile(r"(?:^|[-+])[a-zμ](?:[a-z0-9_]*[a-z0-9])?[A-Z]")
 
 
 def snake(name):

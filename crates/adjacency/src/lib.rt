@@ -1,4 +1,6 @@
 // The adjacent nodes of each node (the paper's neighbours), worked out before a spread: the other nodes that an edge which it may use joins to it.
+#![tactic(auto)]
+
 ghost use Rattle.std.specs.Prelude.{◌↔◌, ◌≡◌, ℕ, ◌<◌, get_or};
 ghost use Rattle.bitset.specs.Members.{◌∈◌, ◌⊆◌};
 ghost use Rattle.node_set.specs.Width.{node_width};

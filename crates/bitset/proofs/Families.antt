@@ -5,7 +5,7 @@
 --   Decided F g      the sets of F lie inside g, and it is decided whether a set holds one of them
 use mathlib.Core.Path.{◌≡◌, refl, sym}
 use mathlib.Core.List.Pairwise
-use mathlib.Core.List.{List, [], ◌∷◌, Pairwise, rel_of_pairwise-cons, Memᴰ}
+use mathlib.Core.List.{List, [], ◌∷◌, Pairwise, rel_of_Pairwise-cons, Memᴰ}
 use mathlib.Core.Logic.Dec
 use mathlib.Core.Logic.Iff
 use mathlib.Core.Logic.{inl, inr, ◌↔◌}
@@ -30,7 +30,7 @@ disjoint-at-most w t h (r ∷ l) apart met =
     let (k, (a, b)) = met r (Memᴰ.head refl) in
     let others : (s : ℕ) → Memᴰ s l → Meets s (t ∖ 2 ^ k) = λ s i.
     let (j, (c, d)) = met s (Memᴰ.tail i) in
-    (j, (c, (in-drop t k j).1 (d, λ e. rel_of_pairwise-cons apart ∣ i ∣₁ (k, (a, rw e at c))))) in
+    (j, (c, (in-drop t k j).1 (d, λ e. rel_of_Pairwise-cons apart ∣ i ∣₁ (k, (a, rw e at c))))) in
     let rest = disjoint-at-most w (t ∖ 2 ^ k) (lt_of_le_of_lt (subset-le (t ∖ 2 ^ k) t (minus-⊆ t (2 ^ k))) h) l (Pairwise.of_cons apart) others in
     omega (arith, rest, size-drop w t k (member-lt w t k h b) b)
 

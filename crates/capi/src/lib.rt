@@ -2,6 +2,8 @@
 //
 // A network crosses the border field by field: the counts and the set of edges as numbers, ends and metres as arrays of 64.
 // A slice passes as a pointer and a length, an array or a single number as a pointer.
+#![tactic(auto)]
+
 ghost use Rattle.std.specs.Prelude.{◌≡◌};
 ghost use Rattle.network.specs.Record.{assembled, fault_of};
 ghost use Rattle.network.specs.Rules.{FaultMeans};

@@ -1,5 +1,7 @@
 // Lists of sets of which none holds another, in lent rows: the unions of two lists, and a list tidied up, which is put in rising order and
 // loses every set that holds another one.
+#![tactic(auto)]
+
 ghost use Rattle.std.specs.Prelude.{◌≡◌, ◌+◌, ◌*◌, ◌-◌, ◌≤◌, ◌<◌, length, drop};
 ghost use Rattle.sorting.specs.Sorted.{Ascending};
 ghost use Rattle.clutters.specs.Steps.{PartAt, between, UnitedWith, United, Tidied};

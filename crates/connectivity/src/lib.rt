@@ -9,6 +9,8 @@
 //
 //   severed          whether a set of edges severs, of an accepted network
 //   settled          whether what is known of the set before still holds
+#![tactic(auto)]
+
 use edge_set::EdgeSet;
 use node_set::NodeSet;
 
@@ -21,7 +23,7 @@ pub use part::relevant;
 pub use silence::{settled, severed};
 
 // The relevant part: the refusal's number, 0 if there is none, beside the two sets, both empty on refusal.
-#[derive(Drop)]
+#[derive(Clone, Copy)]
 pub struct RelevantPart {
     pub refusal: u8,
     pub nodes: NodeSet,
@@ -29,7 +31,7 @@ pub struct RelevantPart {
 }
 
 // What a set of edges is, or the number of the refusal.
-#[derive(Drop)]
+#[derive(Clone, Copy)]
 pub enum Verdict {
     NotCut,
     NotMinimal,

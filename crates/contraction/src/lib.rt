@@ -1,4 +1,6 @@
 // Contraction: a network with several of its nodes made one, so that a cut for that one is a cut for all of them.
+#![tactic(auto)]
+
 ghost use Rattle.std.specs.Prelude.{◌≡◌};
 ghost use Rattle.bitset.specs.Members.{has};
 ghost use Rattle.contraction.specs.Contracted.{Moved, Contracted};

@@ -1,9 +1,11 @@
 // A set of edges (cables): numbers below 64.
+#![tactic(auto)]
+
 ghost use Rattle.std.specs.Prelude.{◌≡◌, false, not, ◌&&◌, ◌||◌, ℕ, eqb, ltb};
 ghost use Rattle.bitset.specs.Decides.{Decides};
 ghost use Rattle.bitset.specs.Members.{has, ◌⊆◌, size, Lowest};
 
-#[derive(Drop)]
+#[derive(Clone, Copy)]
 pub struct EdgeSet(pub u64);
 
 impl EdgeSet {

@@ -1,4 +1,6 @@
 // The enumeration of the source sides (the paper's near sides): a node beside the side joins it, or is left out for good.
+#![tactic(auto)]
+
 ghost use Rattle.std.specs.Prelude.{◌≡◌, ◌&&◌, [], ◌∷◌, ◌^◌, ◌≤◌, ◌<◌, leb, set};
 ghost use Rattle.bitset.specs.Members.{has, ◌∈◌, ◌⊆◌, ◌∖◌};
 ghost use Rattle.node_set.specs.Width.{node_width};

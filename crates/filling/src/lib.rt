@@ -1,4 +1,6 @@
 // The rows of a network in lent rows: straight where these are sure to suffice, else counted first, so that too few are left as they were.
+#![tactic(auto)]
+
 ghost use Rattle.std.specs.Prelude.{◌≡◌, true, ◌-◌, ◌^◌, ◌≤◌, length};
 ghost use Rattle.sequences.specs.Words.{onto};
 ghost use Rattle.network.specs.Record.{fault_of};

@@ -1,11 +1,13 @@
 // Numbers drawn from a start number, each from the one before: a linear congruential generator of 64 bits.
+#![tactic(auto)]
+
 ghost use Rattle.std.specs.Prelude.{◌≡◌, ◌+◌, ◌*◌, ◌%◌, ◌^◌};
 ghost use Rattle.generator.specs.Generator.{advanced, draw_of};
 
 use std::num::wrapping_add_u64;
 
 // What makes each number from the one before: it is multiplied and added to.
-#[derive(Drop)]
+#[derive(Clone, Copy)]
 struct Generator {
     multiplier: u64,
     increment: u64,

@@ -1,1 +1,3 @@
 // The graph of a network.
+#![tactic(auto)]
+

@@ -1,4 +1,6 @@
 // Lengths: `total`, the metres of a set of edges. It takes whatever it is given.
+#![tactic(auto)]
+
 ghost use Rattle.std.specs.Prelude.{◌≡◌, ◌*◌, ◌≤◌, ◌<◌};
 ghost use Rattle.network.specs.Record.{metres_of};
 ghost use Rattle.lengths.specs.Lengths.{total_metres, total_of, TotalMeans};
@@ -7,7 +9,7 @@ use edge_set::EdgeSet;
 use network::{Network, set_fault};
 
 // The answer: the refusal's number, 0 if there is none, beside the total metres, 0 on refusal.
-#[derive(Drop)]
+#[derive(Clone, Copy)]
 pub struct Measured {
     pub refusal: u8,
     pub metres: u32,

@@ -3,6 +3,8 @@
 // It reads up to 521 bytes, enough to decide any plan. All that it prints is made in one page of memory by `report`, whose contract says
 // what that is, and written out at once. No list is lost without a word: standard error says if a read failed, and then nothing is
 // printed, or if standard output did not take all of the page.
+#![tactic(auto)]
+
 ghost use Rattle.std.specs.Prelude.{◌≡◌, length};
 ghost use Rattle.list.specs.Reading.{input_of, Counted};
 
@@ -11,7 +13,7 @@ use report::DECIDING;
 use text::MAX_TEXT;
 
 // What reading came to: so many bytes, or a read failed.
-#[derive(Drop)]
+#[derive(Clone, Copy)]
 enum Input {
     Read(usize),
     Failed,

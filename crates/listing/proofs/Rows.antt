@@ -2,7 +2,7 @@
 -- Assumes a sound network.
 use mathlib.Core.Path.{◌≡◌, refl, sym, ap, ◌∙◌}
 use mathlib.Core.List.Pairwise
-use mathlib.Core.List.{List, [], ◌∷◌, map, zip, zip_with, Nodup, Memᴰ, Perm, perm_ext_iff_of_nodup}
+use mathlib.Core.List.{List, [], ◌∷◌, map, zip, zip_with, Nodup, Memᴰ, Perm, perm_ext_iff_of_Nodup}
 use mathlib.Core.Logic.Iff
 use mathlib.Core.Logic.{◌↔◌, ∥∥₁_elim}
 use Prim.Native.Nat.{ℕ, ◌<◌}
@@ -53,7 +53,7 @@ module _ (N : Network) (S : Sound N) where
   -- The complete list is a permutation of the cuts of the rows.
   pub mincuts-perm : Perm (mincuts N) (cuts_of (rows N))
   mincuts-perm =
-      (perm_ext_iff_of_nodup (Pairwise.imp (λ a b h e. absurd (omega arith)) complete.rising) cuts-nodup).1 (λ c. Iff.trunc (list-cuts c))
+      (perm_ext_iff_of_Nodup (Pairwise.imp (λ a b h e. absurd (omega arith)) complete.rising) cuts-nodup).1 (λ c. Iff.trunc (list-cuts c))
 
   -- There are as many mincuts as rows.
   pub mincuts-count : length (mincuts N) ≡ length (rows N)

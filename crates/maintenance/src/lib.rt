@@ -1,5 +1,7 @@
 // Works during opening hours: how many minutes of a week lie in an opening window while the cables then out hold a minimal cut.
 // `silent_minutes` takes whatever it is given.
+#![tactic(auto)]
+
 ghost use Rattle.std.specs.Prelude.{◌≡◌};
 ghost use Rattle.network.specs.Record.{fault_of, present};
 ghost use Rattle.graph.specs.CutTests.{severed};
@@ -18,14 +20,14 @@ const MAX_OPENINGS: usize = 14;
 const MAX_WORKS: usize = 16;
 
 // The answer: the refusal's number, 0 if there is none, beside the minutes, 0 on refusal.
-#[derive(Drop)]
+#[derive(Clone, Copy)]
 pub struct Outage {
     pub refusal: u8,
     pub minutes: u16,
 }
 
 // What is known of the room: whether it is silent while these edges are out.
-#[derive(Drop)]
+#[derive(Clone, Copy)]
 struct Room {
     out: EdgeSet,
     severs: bool,

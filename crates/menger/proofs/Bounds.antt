@@ -4,7 +4,7 @@ use mathlib.Core.Path.{◌≡◌, refl, sym, ◌∙◌}
 use mathlib.Core.Bool.{false}
 use mathlib.Core.List.Memᴰ
 use mathlib.Core.List.Pairwise
-use mathlib.Core.List.{List, [], ◌∷◌, Pairwise, rel_of_pairwise-cons, Pairwise-singleton, Memᴰ}
+use mathlib.Core.List.{List, [], ◌∷◌, Pairwise, rel_of_Pairwise-cons, Pairwise-singleton, Memᴰ}
 use mathlib.Core.Logic.{◌⊎◌, inl, inr, ◌↔◌, ◌≢◌}
 use Prim.Native.Nat.{ℕ, ◌≤◌}
 use native.Mathlib.Nat.{lt_of_le_of_lt, le_antisymm}
@@ -83,6 +83,6 @@ apart_distinct N differ l apart = go l apart.minpaths apart.disjoint
     go : (k : List ℕ) → ((r : ℕ) → Memᴰ r k → Minpath N r) → Pairwise Disjoint k → Distinct k
     go [] paths disjoint = tt
     go (r ∷ k) paths disjoint = (
-      λ m. let (e, i) = minpath-edge N differ r (paths r (Memᴰ.head refl)) in rel_of_pairwise-cons disjoint ∣ m ∣₁ (e, (i, i)),
+      λ m. let (e, i) = minpath-edge N differ r (paths r (Memᴰ.head refl)) in rel_of_Pairwise-cons disjoint ∣ m ∣₁ (e, (i, i)),
       go k (λ s m. paths s (Memᴰ.tail m)) (Pairwise.of_cons disjoint),
     )

@@ -6,6 +6,8 @@
 //   refusal          the paper's numbers
 //
 // Every function that callers can name takes whatever it is given: none has a `requires`.
+#![tactic(auto)]
+
 use edge_set::EdgeSet;
 
 mod faults;
@@ -15,7 +17,7 @@ pub use faults::{end_fault, fault, set_fault, size_fault, terminal_fault};
 
 // A network: `nodes` points numbered from 0, the server `source`, the room `sink`, and up to 64 cables.
 // Edge k is `first[k]` - `second[k]` if it is in `present`, and `metres[k]` long, 0 meaning not measured; an absent edge has 0 for all three.
-#[derive(Drop)]
+#[derive(Clone, Copy)]
 pub struct Network {
     pub nodes: u8,
     pub source: u8,

@@ -1,4 +1,6 @@
 // A set of nodes (points): numbers below the width.
+#![tactic(auto)]
+
 ghost use Rattle.std.specs.Prelude.{◌≡◌, false, not, ◌&&◌, ◌||◌, ℕ, eqb, ltb};
 ghost use Rattle.bitset.specs.Members.{has, size, Lowest};
 ghost use Rattle.node_set.specs.Width.{node_width};
@@ -11,7 +13,7 @@ pub type NodeWord = u64;
 // The rows of a table that has one for each node that there can be.
 pub const NODES: usize = NODE_WIDTH as usize;
 
-#[derive(Drop)]
+#[derive(Clone, Copy)]
 pub struct NodeSet(pub NodeWord);
 
 impl NodeSet {

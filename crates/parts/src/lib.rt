@@ -1,5 +1,7 @@
 // What the sink still reaches when a node joins the side, found from that node's neighbours: mostly they hang together after a step or two,
 // and then nothing else is lost.
+#![tactic(auto)]
+
 ghost use Rattle.std.specs.Prelude.{◌≡◌, ◌^◌, ◌<◌};
 ghost use Rattle.bitset.specs.Members.{◌∈◌, ◌⊆◌, ◌∖◌};
 ghost use Rattle.node_set.specs.Width.{node_width};

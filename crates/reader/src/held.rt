@@ -7,7 +7,7 @@ use crate::command::command_at;
 use format::{Awaited, Step};
 
 // A plan, and the offset of the command to read.
-#[derive(Drop)]
+#[derive(Clone, Copy)]
 pub struct Reader<'a> {
     plan: &'a [u8],
     at: usize,

@@ -1,4 +1,6 @@
 // The reader: `decode`, from bytes to a record. It takes whatever it is given.
+#![tactic(auto)]
+
 mod command;
 mod decoding;
 mod held;

@@ -1,4 +1,6 @@
 // Playing back a hall's link log: after each event, whether some minimal cut is wholly down. `replay` takes whatever it is given.
+#![tactic(auto)]
+
 ghost use Rattle.std.specs.Prelude.{◌≡◌, ◌≤◌, ◌<◌, length};
 ghost use Rattle.sequences.specs.Words.{onto};
 ghost use Rattle.network.specs.Record.{fault_of, present};
@@ -16,7 +18,7 @@ const DOWN: u8 = 0x44;
 const UP: u8 = 0x55;
 
 // The answer: the refusal's number, 0 if there is none, beside the count of bytes written, 0 on refusal.
-#[derive(Drop)]
+#[derive(Clone, Copy)]
 pub struct Replayed {
     pub refusal: u8,
     pub count: usize,

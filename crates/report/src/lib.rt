@@ -1,4 +1,6 @@
 // What the list program prints, made in one page of memory. The contract says what that is, byte for byte (specs/Report.antt).
+#![tactic(auto)]
+
 ghost use Rattle.std.specs.Prelude.{◌≡◌, take};
 ghost use Rattle.report.specs.Report.{Reported};
 

@@ -1,5 +1,7 @@
 // Lists for several rooms: the least sets of cables that silence at least one of them, and those that silence all. Each room's list is made
 // in the lent work rows, behind the sets for the rooms before it, and added to these.
+#![tactic(auto)]
+
 mod package;
 mod taking;
 
@@ -19,14 +21,14 @@ use node_set::NodeSet;
 pub const MOST_ROOMS: usize = 8;
 
 // How many of the rooms a set is to silence: at least one, or every one.
-#[derive(Drop)]
+#[derive(Clone, Copy)]
 pub enum Extent {
     Any,
     All,
 }
 
 // The rooms that a call is asked for, as a set, beside the refusal's number, 0 if there is none.
-#[derive(Drop)]
+#[derive(Clone, Copy)]
 struct Asked {
     refusal: u8,
     rooms: NodeSet,

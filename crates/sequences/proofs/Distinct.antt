@@ -5,7 +5,7 @@ use mathlib.Core.Bool.{Bool, true, false, not, true≢false}
 use mathlib.Core.HLevel.{⊥_prop}
 use mathlib.Core.List.Memᴰ
 use mathlib.Core.List.Pairwise
-use mathlib.Core.List.{List, [], ◌∷◌, ◌++◌, map, Nodup, Nodup-nil, Nodup-cons, rel_of_pairwise-cons, Memᴰ}
+use mathlib.Core.List.{List, [], ◌∷◌, ◌++◌, map, Nodup, Nodup-nil, Nodup-cons, rel_of_Pairwise-cons, Memᴰ}
 use mathlib.Core.Logic.{inl, inr, ◌↔◌, ∥∥₁_elim}
 use Prim.Native.Nat.{ℕ, suc, ◌≤◌, ◌<◌, zero-le}
 use native.Mathlib.Nat.{lt_of_lt_of_le}
@@ -47,7 +47,7 @@ distinct-nodup (x ∷ l) d = Nodup-cons.1 (λ m. ∥∥₁_elim m ⊥_prop d.0, 
 pub rising-distinct : (l : List ℕ) → Rising l → Distinct l
 unfolding Distinct
 rising-distinct [] r = tt
-rising-distinct (x ∷ l) r = (λ m. absurd (omega (arith, rel_of_pairwise-cons r ∣ m ∣₁)), rising-distinct l (Pairwise.of_cons r))
+rising-distinct (x ∷ l) r = (λ m. absurd (omega (arith, rel_of_Pairwise-cons r ∣ m ∣₁)), rising-distinct l (Pairwise.of_cons r))
 
 -- Where different elements have different values, the values are no repeats.
 pub distinct-map : (f : ℕ → ℕ) (l : List ℕ) → Distinct l → ((x y : ℕ) → Memᴰ x l → Memᴰ y l → f x ≡ f y → x ≡ y) → Distinct (map f l)

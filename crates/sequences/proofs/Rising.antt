@@ -5,7 +5,7 @@ use mathlib.Core.Path.{◌≡◌, refl, sym, ap, ap₂, ◌∙◌}
 use mathlib.Core.Bool.{Bool, true, false}
 use mathlib.Core.List.Memᴰ
 use mathlib.Core.List.Pairwise
-use mathlib.Core.List.{List, [], ◌∷◌, Pairwise, Pairwise-singleton, rel_of_pairwise-cons, Memᴰ}
+use mathlib.Core.List.{List, [], ◌∷◌, Pairwise, Pairwise-singleton, rel_of_Pairwise-cons, Memᴰ}
 use mathlib.Core.Logic.Iff
 use mathlib.Core.Logic.{◌⊎◌, inl, inr, ◌↔◌, ∥∥₁_elim}
 use Prim.Native.Nat.{ℕ, zero, suc, ◌≤◌, ◌<◌}
@@ -27,13 +27,13 @@ first-same x y l k p q same = go (Memᴰ.cases_cons ((same x).0 (Memᴰ.head ref
     go : (x ≡ y) ⊎ Memᴰ x k → (y ≡ x) ⊎ Memᴰ y l → x ≡ y
     go (inl e) n = e
     go (inr m) (inl e) = sym e
-    go (inr m) (inr n) = absurd (omega (arith, rel_of_pairwise-cons p ∣ n ∣₁, rel_of_pairwise-cons q ∣ m ∣₁))
+    go (inr m) (inr n) = absurd (omega (arith, rel_of_Pairwise-cons p ∣ n ∣₁, rel_of_Pairwise-cons q ∣ m ∣₁))
 
 -- What stands after the first number of a rising list stands after an equal first number of a list with the same members.
 rest-member : (x y c : ℕ) (l k : List ℕ) → x ≡ y → Rising (x ∷ l) → (Memᴰ c (x ∷ l) → Memᴰ c (y ∷ k)) → Memᴰ c l → Memᴰ c k
 rest-member x y c l k first p to m =
     elim (Memᴰ.cases_cons (to (Memᴰ.tail m))) [
-      | inl e ↦ absurd (omega (arith, rel_of_pairwise-cons p ∣ m ∣₁))
+      | inl e ↦ absurd (omega (arith, rel_of_Pairwise-cons p ∣ m ∣₁))
       | inr n ↦ n
     ]
 
@@ -51,7 +51,7 @@ rising-unique (x ∷ l) (y ∷ k) p q same =
 pub rising-places : (l : List ℕ) → Rising l → (i j : ℕ) → i < j → j < length l → get_or l i 0 < get_or l j 0
 rising-places [] r i j h k = absurd (not-suc-le-zero k)
 rising-places (x ∷ l) r i zero h k = absurd (not-suc-le-zero h)
-rising-places (x ∷ l) r zero (suc j) h k = rel_of_pairwise-cons r ∣ mem-at l j 0 (le_of_suc-le-suc k) ∣₁
+rising-places (x ∷ l) r zero (suc j) h k = rel_of_Pairwise-cons r ∣ mem-at l j 0 (le_of_suc-le-suc k) ∣₁
 rising-places (x ∷ l) r (suc i) (suc j) h k = rising-places l (Pairwise.of_cons r) i j (le_of_suc-le-suc h) (le_of_suc-le-suc k)
 
 -- If what stands at each place is related to what stands at every later one, each number is related to all that come after it.
@@ -141,7 +141,7 @@ placed-rising x [] r = Pairwise-singleton ◌<◌ x
 placed-rising x (y ∷ l) r = go (ltb y x) refl (ltb x y) refl (placed-rising x l (Pairwise.of_cons r))
   where
     above : (a : ℕ) → Memᴰ a l → y < a
-    above a m = rel_of_pairwise-cons r ∣ m ∣₁
+    above a m = rel_of_Pairwise-cons r ∣ m ∣₁
 
     from : (a : ℕ) → Memᴰ a (y ∷ l) → y ≤ a
     from a m = elim (Memᴰ.cases_cons m) [ inl e ↦ omega arith | inr i ↦ omega (arith, above a i) ]

@@ -1,5 +1,7 @@
 // A drill with drawn failures: step by step, present cables fail and are repaired as numbers are drawn, and the steps that end with a
 // minimal cut wholly down are counted. `simulate` takes whatever it is given.
+#![tactic(auto)]
+
 ghost use Rattle.std.specs.Prelude.{◌≡◌, ◌≤◌, ◌<◌, ltb};
 ghost use Rattle.bitset.specs.Members.{add_if, members};
 ghost use Rattle.network.specs.Record.{fault_of, present};
@@ -16,7 +18,7 @@ use network::refusal::TOO_MANY_STEPS;
 const MAX_STEPS: u64 = 65535;
 
 // The answer: the refusal's number, 0 if there is none, beside the steps that count and the final number, both 0 on refusal.
-#[derive(Drop)]
+#[derive(Clone, Copy)]
 pub struct Simulated {
     pub refusal: u8,
     pub silent: u64,
@@ -24,7 +26,7 @@ pub struct Simulated {
 }
 
 // Where a drill has come to: the number last drawn from, and the edges down.
-#[derive(Drop)]
+#[derive(Clone, Copy)]
 struct State {
     number: u64,
     down: EdgeSet,

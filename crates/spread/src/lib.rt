@@ -1,4 +1,6 @@
 // The spread (the paper's reach): from a start over sets of adjacent nodes, in rounds, until one adds no node. It knows no network and no edge.
+#![tactic(auto)]
+
 ghost use Rattle.std.specs.Prelude.{◌↔◌, ℕ};
 ghost use Rattle.bitset.specs.Members.{◌∈◌};
 ghost use Rattle.spread.specs.Spread.{AdjacentTo, Reached};

@@ -1,4 +1,6 @@
 // What is printed of a list, as bytes in lent memory. Every contract speaks of the bytes (specs/Text.antt, specs/Written.antt).
+#![tactic(auto)]
+
 ghost use Rattle.std.specs.Prelude.{◌≡◌, ◌+◌, ◌≤◌, min, length, take};
 ghost use Rattle.bitset.specs.Members.{members};
 ghost use Rattle.node_set.specs.Width.{node_width};
@@ -48,7 +50,7 @@ fn write_number(out: &mut [u8], at: usize, n: usize) -> usize
 
 // Numbers to be written, as a set of bits: number k weighs 2^k. A kind of its own, so that on its way to the page a set of nodes never
 // becomes a set of edges.
-#[derive(Drop)]
+#[derive(Clone, Copy)]
 struct Numbers(u64);
 
 // Writes each number after a space, rising, from the offset `at` on.

@@ -1,5 +1,7 @@
 // The test of a network that was trimmed already, so that every node and every present edge is relevant (the paper's useful). It is not the
 // trimming: with source and sink joined, no node may hold others alone, which one depth-first walk decides; and no edge may be a loop.
+#![tactic(auto)]
+
 ghost use Rattle.std.specs.Prelude.{◌↔◌, ◌≡◌, ◌-◌, ◌^◌, ◌<◌, T, eqb};
 ghost use Rattle.bitset.specs.Members.{◌∈◌};
 ghost use Rattle.node_set.specs.Width.{node_width};
@@ -16,7 +18,7 @@ use network::refusal::NOT_TRIMMED;
 use node_set::{NODE_WIDTH, NODES, NodeSet, NodeWord};
 
 // Where a visit ends: the nodes visited by then, and which of those visited before it are adjacent to one of its own.
-#[derive(Drop)]
+#[derive(Clone, Copy)]
 struct Walk {
     visited: NodeSet,
     back: NodeSet,

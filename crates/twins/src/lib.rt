@@ -2,6 +2,8 @@
 //
 //   lower_twins      for each edge those below it that join the same pair
 //   leading          the edges of a set that have no lower twin in it
+#![tactic(auto)]
+
 ghost use Rattle.std.specs.Prelude.{◌↔◌, ◌≡◌, ℕ, ◌<◌, get_or};
 ghost use Rattle.bitset.specs.Decides.{Decides};
 ghost use Rattle.bitset.specs.Families.{Meets};

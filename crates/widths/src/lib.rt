@@ -1,4 +1,6 @@
 // Widths: `width_table`, how many rows of a list there are of each width. It takes whatever it is given.
+#![tactic(auto)]
+
 mod rows;
 
 ghost use Rattle.std.specs.Prelude.{◌≡◌};
@@ -11,7 +13,7 @@ use rows::{by_leading, by_size};
 use twins::{leading, lower_twins};
 
 // The answer: the refusal's number, 0 if there is none, beside the number of rows of each width from 0 to 64, all 0 on refusal.
-#[derive(Drop)]
+#[derive(Clone, Copy)]
 pub struct Widths {
     pub refusal: u8,
     pub counts: [u64; 65],

@@ -15,7 +15,7 @@ use twins::leading;
 const NONE: [u64; 65] = [0; 65];
 
 // How many rows there are of each width from 0 to 64, and the edges of all rows together.
-#[derive(Drop)]
+#[derive(Clone, Copy)]
 pub(crate) struct RowCounts {
     pub counts: [u64; 65],
     pub edges: EdgeSet,

@@ -7,6 +7,8 @@
 //   next_change      when a window next starts or ends
 //   openings_fault   the first fault of opening windows
 //   works_fault      the first fault of works windows
+#![tactic(auto)]
+
 mod changes;
 mod faults;
 mod minute;

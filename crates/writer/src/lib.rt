@@ -1,4 +1,6 @@
 // The writer: `encode`, the record's commands into a lent buffer. It takes whatever it is given.
+#![tactic(auto)]
+
 ghost use Rattle.std.specs.Prelude.{◌≡◌, [], ◌∷◌, ℕ, ◌+◌, ◌≤◌, length, drop};
 ghost use Rattle.std.proofs.lemmas.List.Edits.{sets};
 ghost use Rattle.format.specs.Format.{length_command, command_of, encode_of, encoded_by, bytes_after, WrittenTo};

@@ -1,0 +1,11 @@
+-- `EdgeSet::single` meets its contract: a shifted 1 has the one member.
+-- Assumes nothing.
+use borrow.Author.Rules.{rules}
+use Rattle.bitset.proofs.Words.{has-single, has-single-past}
+use Rattle.edge_set.proofs.EdgeSet.single.Goals as goal
+
+pub returns-then-k-lt64 : goal.returns-then-k-lt64
+returns-then-k-lt64 c = has-single 64 _ (search rules)
+
+pub returns-else-k-lt64 : goal.returns-else-k-lt64
+returns-else-k-lt64 c = has-single-past 64 _ (search rules)

@@ -1,0 +1,13 @@
+-- `reader::decode_edges` meets its contract. The invariant: the walk from here gives what the walk from the start gives.
+-- The measure is what is left of the bytes. Assumes nothing.
+use mathlib.Core.Path.{◌≡◌}
+use Prim.Native.Nat.{◌-◌}
+use lib.ListN.{length, drop}
+use Rattle.format.specs.Format.{walk}
+use Rattle.reader.proofs.decoding.decode_edges.Given as goal
+
+abbrev pub invariant-loop-edge : goal.invariant-loop-edge
+invariant-loop-edge l = walk l.network l.next (drop l.at l.plan) ≡ walk l.initial.network l.initial.next (drop l.initial.at l.plan)
+
+abbrev pub decreases-loop-edge : goal.decreases-loop-edge
+decreases-loop-edge l = length l.plan - l.at
