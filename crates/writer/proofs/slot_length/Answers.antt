@@ -2,17 +2,16 @@
 -- Assumes nothing.
 use mathlib.Core.Path.{◌≡◌}
 use native.Mathlib.Omega.{arith}
-use borrow.Author.Tests.{not-true, not-false}
 use Rattle.format.proofs.Commands.{length-absent, length_whole}
 use Rattle.writer.proofs.slot_length.Goals as goal
 
 pub returns-then-not-present : goal.returns-then-not-present
-returns-then-not-present c k a b = rw (not-true c.args.present c.if-not-present.true)
+returns-then-not-present c k a b = rw c.if-not-present.true
 
 pub returns-then-metres-gt0 : goal.returns-then-metres-gt0
-returns-then-metres-gt0 c k a b = rw (not-false c.args.present c.if-not-present.false, length_whole k c.args.metres (λ e. omega (arith, e, c.if-metres-gt0.true)))
+returns-then-metres-gt0 c k a b = rw (c.if-not-present.false, length_whole k c.args.metres (λ e. omega (arith, e, c.if-metres-gt0.true)))
 
 pub returns : goal.returns
 returns c k a b =
     let none : c.args.metres ≡ 0 = omega (arith, c.if-metres-gt0.false) in
-    rw (not-false c.args.present c.if-not-present.false, length-absent k c.args.metres none)
+    rw (c.if-not-present.false, length-absent k c.args.metres none)

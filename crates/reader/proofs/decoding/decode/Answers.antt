@@ -31,28 +31,27 @@ no_terminals (Step.Refused r) other = search rules
 
 pub returns-in_default : goal.returns-in_default
 returns-in_default c =
-    let both = let given : Bytes c.args.plan.now =
-    λ i. omega (arith, c.type_inv.plan i) in
     let plan = c.args.plan.now in
-    read-means plan (given) (c.refused.ensures ∙ ap refuse c.number.ensures
-    ∙ size-stops plan c.next_command-size.ensures (no_size _ c.in_default.not-Size)) in
+    let given : Bytes plan = λ i. omega (arith, c.type_inv.plan i) in
+    let other = no_size _ c.in_default.not-Size in
+    let both = read-means plan given (c.refused.ensures ∙ ap refuse c.number.ensures ∙ size-stops plan c.next_command-size.ensures other) in
     record { value = both.0; means = both.1 }
 
 pub returns-in_default-terminals : goal.returns-in_default-terminals
 returns-in_default-terminals c =
-    let both = let given : Bytes c.args.plan.now =
-    λ i. omega (arith, c.type_inv.plan i) in
-    let other = no_terminals _ c.in_default-terminals.not-Terminals in
     let plan = c.args.plan.now in
-    read-means plan (given) (c.refused-in_default-terminals.ensures ∙ ap refuse c.number-in_default-terminals.ensures
+    let given : Bytes plan = λ i. omega (arith, c.type_inv.plan i) in
+    let other = no_terminals _ c.in_default-terminals.not-Terminals in
+    let both =
+    read-means plan given (c.refused-in_default-terminals.ensures ∙ ap refuse c.number-in_default-terminals.ensures
     ∙ terminals-stops plan c.next_command-size.ensures c.in-Size.is c.next_command-terminals.ensures other) in
     record { value = both.0; means = both.1 }
 
 pub returns : goal.returns
 returns c =
-    let both = let given : Bytes c.args.plan.now =
-    λ i. omega (arith, c.type_inv.plan i) in
     let plan = c.args.plan.now in
-    read-means plan (given) (c.decode_edges.ensures ∙ ap (λ N. walk N 0 (drop 5 plan)) c.bare_network.ensures
+    let given : Bytes plan = λ i. omega (arith, c.type_inv.plan i) in
+    let both =
+    read-means plan given (c.decode_edges.ensures ∙ ap (λ N. walk N 0 (drop 5 plan)) c.bare_network.ensures
     ∙ sym (terminals-goes plan c.next_command-size.ensures c.in-Size.is c.next_command-terminals.ensures c.in-Terminals.is)) in
     record { value = both.0; means = both.1 }

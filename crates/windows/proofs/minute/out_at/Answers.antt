@@ -1,4 +1,3 @@
-use Prim.Native.Nat.{◌-◌}
 use native.Mathlib.Omega.{arith}
 use Rattle.bitset.proofs.Results.{empty-zero}
 use Rattle.windows.proofs.Windows.{none-gathered, edge-lt, more-gathered, all-gathered}
