@@ -4,24 +4,23 @@
 --   one s t v            the node t in place of v, where v is one of the nodes s, and else v
 use mathlib.Core.Path.{◌≡◌, refl, sym, ap, ◌∙◌}
 use mathlib.Core.Bool.{false, cond}
-use mathlib.Core.List.{List, [], ◌∷◌}
+use mathlib.Core.List.{[], ◌∷◌}
 use mathlib.Core.Logic.{◌⊎◌, inl, inr, ◌↔◌}
 use Prim.Native.Nat.{ℕ, ◌<◌}
 use denote.Floats.{is_true}
-use lib.ListN.{length, get_or}
+use lib.ListN.{get_or}
 use Rattle.bitset.specs.Members.{has, ◌∈◌, ◌∖◌}
 use Rattle.bitset.proofs.Sets.{∈-dec, in-minus}
 use Rattle.bitset.proofs.Subsets.{same_test}
 use Rattle.network.specs.declared.Network.{Network}
 use Rattle.network.specs.Record.{fault_of, first_end, second_end, present}
-use Rattle.network.specs.Rules.{Rules}
 use Rattle.network.proofs.Rules.{fault-rules}
 use Rattle.graph.specs.Paths.{Joins, Leads, Connected}
 use Rattle.graph.specs.Cuts.{only, without}
 use Rattle.graph.proofs.Walks.{end-met}
 use Rattle.graph.proofs.Nodes.{carried}
 use Rattle.graph.proofs.Connected.{connected-append, connected-self, connected-along}
-use Rattle.contraction.specs.Contracted.{MovedEnd, Moved, Contracted}
+use Rattle.contraction.specs.Contracted.{MovedEnd, Contracted}
 
 unfoldable one : ℕ → ℕ → ℕ → ℕ
 one s t v = cond (has s v) t v

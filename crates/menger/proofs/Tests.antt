@@ -19,7 +19,7 @@ use Rattle.sequences.proofs.Counts.{member-counted}
 use Rattle.sequences.proofs.Places.{mem-at, mem-place}
 use Rattle.sequences.proofs.Tests.{T_and, T_not, T-eqb}
 use Rattle.sequences.proofs.Words.{T-every}
-use Rattle.bitset.specs.Members.{has, ◌⊆◌, ◌∖◌, members, size}
+use Rattle.bitset.specs.Members.{◌⊆◌, ◌∖◌, members, size}
 use Rattle.bitset.specs.Families.{Disjoint, Transversal}
 use Rattle.bitset.proofs.Subsets.{⊆-trans, subset-and}
 use Rattle.bitset.proofs.Sets.{in_and, minus-⊆, member-lt, not-zero}

@@ -1,0 +1,22 @@
+-- `lister::list_part` meets its contract: each way out is a law of the call.
+-- Assumes nothing.
+use native.Mathlib.Omega.{arith}
+use borrow.Author.Rules.{rules}
+use Rattle.network.specs.Record.{Stored}
+use Rattle.listing.proofs.Call.{answered-unpaired, answered-unfilled, answered-complete}
+use Rattle.listing.proofs.lister.list_part.Goals as goal
+
+pub returns-then-lent-sides : goal.returns-then-lent-sides
+returns-then-lent-sides c = answered-unpaired _ _ _ c.requires.0 (λ e. omega (arith, c.if-lent-sides.true))
+
+pub returns-then-lent-count : goal.returns-then-lent-count
+returns-then-lent-count c =
+    let stored : Stored c.args.network =
+    search rules in
+    answered-unfilled _ _ _ (stored) c.requires.0 c.if-lent-sides.false c.fill-count.ensures c.if-lent-count.true
+
+pub returns : goal.returns
+returns c =
+    let stored : Stored c.args.network =
+    search rules in
+    answered-complete _ _ _ (stored) c.requires.0 c.if-lent-sides.false c.fill-count.ensures c.if-lent-count.false _ _ c.sort_rows.ensures
