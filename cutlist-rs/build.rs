@@ -20,7 +20,7 @@ fn main() {
     println!("cargo:rerun-if-changed={}", archive.display());
     if !archive.is_file() {
         eprintln!(
-            "{} is missing. Make it with `rt staticlib capi` at the root of the repository.",
+            "{} is missing. Make it with `./cutlist` at the root of the repository.",
             archive.display()
         );
         process::exit(1);

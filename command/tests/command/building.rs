@@ -15,15 +15,17 @@ const TOOLS: [&str; 14] = [
 ];
 
 const RT: &str = r#"
-echo "rt $*" >>calls
+echo "rt $* in ${PWD##*/}" >>../../calls
 cat >/dev/null
+mkdir -p out
 case $1 in
-check) mkdir -p target/bin && cp "$BUILT/target/bin/list" target/bin/ ;;
-staticlib) mkdir -p target/staticlib && cp "$BUILT/target/staticlib/libcapi.a" target/staticlib/ ;;
+lib) cp "$BUILT/target/staticlib/libcapi.a" out/ ;;
+run) cp "$BUILT/target/bin/list" out/ && echo 'refused 1' ;;
 esac
-echo 'a note on a proof'
-echo 'rt: lists proved (1 s)'
-echo 'rt: text proved (unchanged since it was last proved)'"#;
+echo 'a note on a proof' >&2
+echo "crate ${PWD##*/}: modules loaded=3 checked=2" >&2
+echo 'logic=proved functions=1' >&2
+echo 'linked target=x86_64-unknown-linux-gnu files=out/list.o' >&2"#;
 
 const CARGO: &str = r#"
 echo "cargo $1" >>calls
@@ -31,7 +33,11 @@ cat >/dev/null
 while [ "$1" != --target-dir ]; do shift; done
 mkdir -p "$2/release" && cp "$PROGRAM" "$2/release/cutlist""#;
 
-const EVERYTHING: [&str; 3] = ["rt check list capi", "rt staticlib capi", "cargo build"];
+const EVERYTHING: [&str; 3] = [
+    "rt lib --cpu=x86-64 in capi",
+    "rt run --cpu=x86-64 in list",
+    "cargo build",
+];
 
 /// A copy of the repository in which nothing is built, and the tools that it finds.
 struct Copy(Folder);
@@ -41,14 +47,8 @@ impl Copy {
         let folder = Folder::new();
         fs::create_dir(folder.0.join("hall plans")).expect("a new folder");
         let copied = run(Command::new("cp")
-            .args([
-                "-r",
-                "--parents",
-                "cutlist",
-                "crates",
-                "crates.txt",
-                "halls",
-            ])
+            .args(["-r", "--parents", "cutlist", "crates.txt", "halls"])
+            .args(crates())
             .args([
                 "cutlist-rs/Cargo.toml",
                 "cutlist-rs/Cargo.lock",
@@ -126,6 +126,24 @@ impl Copy {
     }
 }
 
+/// What there is in the folders of the crates, but for what rt makes there.
+fn crates() -> Vec<PathBuf> {
+    let within = |folder: PathBuf| {
+        fs::read_dir(folder)
+            .expect("a folder")
+            .map(|it| it.expect("an entry").path())
+    };
+    within(root().join("crates"))
+        .flat_map(within)
+        .filter(|path| !path.ends_with("out"))
+        .map(|path| {
+            path.strip_prefix(root())
+                .expect("of the repository")
+                .to_path_buf()
+        })
+        .collect()
+}
+
 /// Changes a file and gives it back the time that it had.
 fn change_in_secret(path: &Path) {
     let time = fs::metadata(path)
@@ -149,12 +167,13 @@ fn the_first_run_builds_and_says_so_and_the_next_does_not() {
     assert_eq!(copy.calls(), EVERYTHING);
     for line in [
         "cutlist: proving the list program",
-        "rt: lists proved (1 s)",
+        "rt: capi proved (",
+        "rt: list proved (",
         "cutlist: building the command",
     ] {
         assert!(first.err.contains(line), "{first:?}");
     }
-    for line in ["a note on a proof", "unchanged"] {
+    for line in ["a note on a proof", "refused 1", "linked"] {
         assert!(!first.err.contains(line), "{first:?}");
     }
     copy.run().listed(BRIDGE_LIST);
@@ -176,6 +195,8 @@ fn a_change_of_the_proved_sources_builds_everything() {
     fs::write(copy.at("crates/list/src/more.rt"), "").expect("a new file");
     copy.builds(&EVERYTHING);
     fs::remove_file(copy.at("crates/list/src/more.rt")).expect("the file");
+    copy.builds(&EVERYTHING);
+    fs::remove_dir_all(copy.at("crates/report/proofs")).expect("the folder");
     copy.builds(&EVERYTHING);
     fs::remove_file(copy.at("target/bin/list")).expect("the list program");
     copy.builds(&EVERYTHING);
@@ -201,10 +222,7 @@ fn tools_that_end_well_and_make_nothing_are_named() {
     let copy = Copy::new();
     copy.tool("rt", "exit 0");
     copy.run().failed(3, &["the list program is not built"]);
-    copy.tool(
-        "rt",
-        "mkdir -p target/bin && : >target/bin/list && chmod +x target/bin/list",
-    );
+    copy.tool("rt", "mkdir -p out && : >out/list && chmod +x out/list");
     copy.run().failed(3, &["the library is not built"]);
 }
 
@@ -236,6 +254,10 @@ fn what_goes_into_no_program_builds_nothing() {
     fs::create_dir(copy.at("command/tests")).expect("a new folder");
     fs::write(copy.at("command/tests/more.rs"), "").expect("a new file");
     fs::write(copy.at("halls/more.hex"), "").expect("a new file");
+    // What rt makes in the folders of the crates, and takes away.
+    fs::create_dir(copy.at("crates/text/out")).expect("a new folder");
+    fs::write(copy.at("crates/text/out/more"), "").expect("a new file");
+    fs::remove_dir_all(copy.at("crates/list/out")).expect("the folder");
     copy.builds(&[]);
 }
 
@@ -309,17 +331,22 @@ fn a_check_that_fails_shows_its_reason() {
     copy.tool(
         "rt",
         "echo 'a note on a proof'
-        echo 'rt: lists proved (1 s)'
+        echo 'crate lists: modules loaded=0 checked=3'
+        echo 'logic=proved functions=1'
         echo 'list.antt:7:3: error: the reason'
-        echo 'rt: list NOT PROVED (exit 1, 2 s)'
-        echo 'rt: FAILED: list'
+        echo 'fn list::fill: not proved'
+        echo 'crate list: modules loaded=0 checked=3'
+        echo 'logic=not-proved'
+        echo 'rt: nothing above it was checked'
         exit 1",
     );
     let ended = copy.run();
     ended.failed(
         3,
         &[
-            "list.antt:7:3: error: the reason\nrt: list NOT PROVED",
+            "rt: lists proved (",
+            "list.antt:7:3: error: the reason\nfn list::fill: not proved\n",
+            "rt: nothing above it was checked",
             "rt failed",
         ],
     );
@@ -339,7 +366,7 @@ fn a_library_that_fails_shows_its_reason() {
     let copy = Copy::new();
     copy.tool(
         "rt",
-        &format!("[ $1 = check ] || {{ echo 'the reason'; exit 1; }}\n{RT}"),
+        &format!("[ $1 = run ] || {{ echo 'the reason'; exit 1; }}\n{RT}"),
     );
     copy.run().failed(3, &["the reason", "rt failed"]);
 }

@@ -8,8 +8,9 @@
 ghost use Rattle.std.specs.Prelude.{◌≡◌, length};
 ghost use Rattle.list.specs.Reading.{input_of, Counted};
 
-use libc::{STDERR_FILENO, STDIN_FILENO, STDOUT_FILENO};
 use report::DECIDING;
+use std::io;
+use std::io::{Read, Stdin, Write};
 use text::MAX_TEXT;
 
 // What reading came to: so many bytes, or a read failed.
@@ -19,31 +20,31 @@ enum Input {
     Failed,
 }
 
-// What a read came to that answered `got`: it failed if that is negative.
-fn input_of(got: isize, room: &[u8]) -> Input
+// What a read came to that answered `got`: it failed if that is an error.
+fn input_of(got: io::Result<usize>, room: &[u8]) -> Input
     ensures { result ≡ input_of got (length room.now) }
 {
-    if got < 0 {
-        return Input::Failed;
+    match got {
+        Ok(count) => Input::Read(count.min(room.len())),
+        Err(_) => Input::Failed,
     }
-    Input::Read(io::count(got, room))
 }
 
 // One read of standard input into the lent bytes. A count of 0 is the end of the input.
-fn read_once(room: &mut [u8]) -> Input
+fn read_once(stdin: &mut Stdin, room: &mut [u8]) -> Input
     ensures { Counted (length room.new) result }
 {
-    let got = libc::read(STDIN_FILENO, room);
+    let got = stdin.read(room);
     input_of(got, room)
 }
 
 // Reads standard input into the lent bytes, until they are full or the input ends.
-fn fill(room: &mut [u8]) -> Input
+fn fill(stdin: &mut Stdin, room: &mut [u8]) -> Input
     ensures { Counted (length room.new) result }
 {
     let mut read = 0;
     while read < room.len() {
-        let input = read_once(&mut room[read..]);
+        let input = read_once(stdin, &mut room[read..]);
         let Input::Read(more) = input else {
             return Input::Failed;
         };
@@ -56,22 +57,24 @@ fn fill(room: &mut [u8]) -> Input
 }
 
 // Reads the first bytes of standard input, as many as decide any plan.
-fn read_plan(plan: &mut [u8; DECIDING]) -> Input
+fn read_plan(stdin: &mut Stdin, plan: &mut [u8; DECIDING]) -> Input
     ensures { Counted (length plan.new) result }
 {
-    fill(plan)
+    fill(stdin, plan)
 }
 
-fn main() {
+fn main(rt: HostRuntime) {
     let mut plan = [0u8; DECIDING];
-    let input = read_plan(&mut plan);
+    let input = read_plan(&mut rt.stdin(), &mut plan);
     let Input::Read(read) = input else {
-        io::write_all(STDERR_FILENO, b"list: cannot read standard input\n");
+        let _ = rt.stderr().write_all(b"list: cannot read standard input\n");
         return;
     };
     let mut page = [0u8; MAX_TEXT];
     let printed = report::report(&plan, read, &mut page);
-    if !io::write_all(STDOUT_FILENO, &page[..printed]) {
-        io::write_all(STDERR_FILENO, b"list: cannot write all of the output\n");
+    if rt.stdout().write_all(&page[..printed]).is_err() {
+        let _ = rt
+            .stderr()
+            .write_all(b"list: cannot write all of the output\n");
     }
 }

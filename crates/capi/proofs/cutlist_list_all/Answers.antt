@@ -1,0 +1,9 @@
+-- `cutlist_list_all` meets its contract, by those of `assemble` and the call for several rooms.
+-- Assumes nothing.
+use Rattle.capi.proofs.Rooms.{rooms-listing}
+use Rattle.capi.proofs.cutlist_list_all.Goals as goal
+
+pub returns : goal.returns
+returns c =
+    let both = rooms-listing c.assemble-with_all.ensures c.list_all-silenced_all.ensures.value c.list_all-silenced_all.ensures.means in
+    record { rooms_listing = both.0; means = both.1 }
