@@ -2,7 +2,7 @@
 -- is tidied up is the least of what the list holds, and so depends on nothing else.
 -- Assumes nothing.
 use mathlib.Core.Path.{◌≡◌, refl, sym, ◌∙◌}
-use mathlib.Core.Bool.{Bool, not, ◌||◌}
+use mathlib.Core.Bool.{not, ◌||◌}
 use mathlib.Core.List.Memᴰ
 use mathlib.Core.List.{List, [], ◌∷◌, ◌++◌, map, Memᴰ}
 use mathlib.Core.Logic.Iff
@@ -19,8 +19,8 @@ use Rattle.sequences.proofs.Tests.{T-dec, T-or, T_not, T-eqb}
 use Rattle.sequences.proofs.Distinct.{rising-distinct, distinct-at-most}
 use Rattle.sequences.proofs.Rising.{rising-unique, in-arranged, arranged-rising}
 use Rattle.sequences.proofs.Words.{T-every, mem-passing}
-use Rattle.bitset.specs.Families.{Holds, Least}
-use Rattle.bitset.specs.Members.{◌∈◌, ◌⊆◌}
+use Rattle.bitset.specs.Families.{Least}
+use Rattle.bitset.specs.Members.{◌⊆◌}
 use Rattle.bitset.proofs.Families.{shrink, least-same}
 use Rattle.bitset.proofs.Sets.{in-or}
 use Rattle.bitset.proofs.Subsets.{⊆-refl, ⊆-trans, ⊆-antisym, subset-and}

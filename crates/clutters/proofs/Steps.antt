@@ -10,7 +10,7 @@ use mathlib.Core.Path.{◌≡◌, refl, sym, ap, ◌∙◌}
 use mathlib.Core.List.Memᴰ
 use mathlib.Core.List.{List, [], ◌∷◌, ◌++◌, map, map-append, append_assoc, append-nil, Pairwise, Pairwise-singleton, Pairwise-append, Memᴰ}
 use mathlib.Core.Logic.Iff
-use mathlib.Core.Logic.{◌⊎◌, inl, inr, ◌↔◌, ∥∥₁_elim}
+use mathlib.Core.Logic.{inl, inr, ◌↔◌, ∥∥₁_elim}
 use Prim.Native.Nat.{ℕ, suc, ◌+◌, ◌*◌, ◌-◌, ◌≤◌, ◌<◌, zero-le}
 use native.Mathlib.Bridge.{le_prop}
 use native.Mathlib.Nat.{sub_self, sub-zero, suc-mul, mul-le-mul_right, eq-or-lt_of_le, le_of_suc-le-suc}
@@ -19,8 +19,8 @@ use native.Mathlib.Omega.{arith}
 use lib.Arith.{lt_of_le-ne}
 use lib.Bits.{bit_and, bit_or}
 use borrow.Rule.Slice.PartMut.{mid_of, put_mid, same_len_mid}
-use lib.ListN.{length, get_or, set, take, drop, drop_of_length-le, length-append, length-map, length-take, length-drop, length-set}
-use lib.Seq.{take-suc, take-append-le, drop_at, take-take, take-add, take_all, drop-drop, take-suc-set, drop-set-lt, length-take-le, get_or-take, get_or-drop, get_or_at, split_at}
+use lib.ListN.{length, get_or, set, take, drop, drop_of_length-le, length-append, length-map, length-drop, length-set}
+use lib.Seq.{take-suc, take-append-le, drop_at, take-take, take-add, take_all, drop-drop, take-suc-set, drop-set-lt, length-take-le, get_or-take, get_or-drop, split_at}
 use Rattle.sequences.specs.Rising.{Rising}
 use Rattle.sequences.proofs.Counts.{permutation-mem}
 use Rattle.sequences.proofs.Places.{at_mem, mem-at}

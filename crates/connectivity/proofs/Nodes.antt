@@ -9,7 +9,7 @@ use mathlib.Core.Logic.{◌⊎◌, inl, inr, ◌↔◌}
 use Prim.Native.Nat.{ℕ, ◌-◌, ◌%◌, ◌^◌, ◌<◌}
 use native.Mathlib.Omega.{arith}
 use lib.Dec.{T, eqb, ltb}
-use Rattle.bitset.specs.Members.{has, ◌⊆◌, insert, add_if, ◌∖◌, ◌∈◌}
+use Rattle.bitset.specs.Members.{has, insert, add_if, ◌∖◌, ◌∈◌}
 use Rattle.bitset.proofs.Subsets.{⊆-antisym}
 use Rattle.sequences.proofs.Tests.{T_and}
 use Rattle.bitset.proofs.Sets.{member-lt, in-mod, in_insert, in-add_if, in-single, in-drop}
@@ -18,7 +18,6 @@ use Rattle.node_set.specs.Width.{node_width}
 use Rattle.network.specs.declared.Network.{Network}
 use Rattle.network.specs.Record.{has_edge, first_end, second_end, present}
 use Rattle.graph.specs.Cuts.{only}
-use Rattle.graph.specs.Reach.{reach_of}
 use Rattle.graph.specs.Relevant.{two_in, edges_within, past}
 use Rattle.graph.proofs.EdgeSets.{in-chosen, in-edges_within}
 use Rattle.graph.proofs.Sound.{Sound}

@@ -32,7 +32,7 @@ use Rattle.listing.proofs.Call.{complete-call}
 use Rattle.rooms.specs.declared.Extent.{Extent}
 use Rattle.rooms.specs.declared.Extent.TheVariants.{Any, All}
 use Rattle.rooms.specs.Silences.{to, SilencesAny, SilencesAll, Silences, Package}
-use Rattle.rooms.specs.Rooms.{packaged, package_fault, sets_from, sets_for, needs, rooms_refusal, rooms_listed_by, rooms_rows_after, work_after}
+use Rattle.rooms.specs.Rooms.{packaged, package_fault, sets_from, sets_for, rooms_refusal, rooms_listed_by, rooms_rows_after, work_after}
 use Rattle.rooms.proofs.Packages.{packaged-iff}
 use Rattle.rooms.proofs.Refusals.{Case, faulty, no-package, short, outnumbered, complete, call-case, package-faulty, package-19, outnumbered-iff, complete-iff}
 use Rattle.rooms.proofs.Calls.{RoomsAnswered, completed, answered-first, answered-short, answered-outnumbered, answered-complete}

@@ -1,3 +1,2 @@
 // The graph of a network.
 #![tactic(auto)]
-

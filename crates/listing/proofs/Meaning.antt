@@ -4,7 +4,6 @@ use mathlib.Core.Path.{◌≡◌, sym, ap, ◌∙◌}
 use mathlib.Core.List.{List}
 use mathlib.Core.Logic.{◌↔◌}
 use Prim.Native.Nat.{ℕ, ◌<◌}
-use native.Mathlib.Nat.{lt_trans, lt_of_lt_of_le}
 use lib.ListN.{length, get_or, length-map}
 use Rattle.sequences.proofs.Words.{get_or-onto}
 use Rattle.sequences.specs.Words.{onto}

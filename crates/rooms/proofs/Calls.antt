@@ -6,7 +6,6 @@ use mathlib.Core.Path.{◌≡◌, refl, sym, ap, ◌∙◌}
 use mathlib.Core.Bool.{not}
 use mathlib.Core.List.{List, Memᴰ}
 use mathlib.Core.Logic.Iff
-use mathlib.Core.Logic.{◌↔◌}
 use Prim.Native.Nat.{ℕ, ◌^◌, ◌≤◌, ◌<◌}
 use native.Mathlib.Omega.{arith}
 use borrow.Author.Tests.{not-false}
@@ -21,7 +20,7 @@ use Rattle.bitset.proofs.MemberList.{in_members, members-rising}
 use Rattle.bitset.proofs.Sets.{member-lt}
 use Rattle.node_set.specs.Width.{node_width}
 use Rattle.network.specs.declared.Network.{Network}
-use Rattle.network.specs.Record.{◌when◌, ◌then◌, unless_refused, fault_of}
+use Rattle.network.specs.Record.{◌when◌, fault_of}
 use Rattle.network.proofs.Refusals.{then-none, when-none, refused-some, refused_none}
 use Rattle.listing.specs.declared.Listed.{Listed}
 use Rattle.rooms.specs.declared.Asked.{Asked}

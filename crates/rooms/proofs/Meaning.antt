@@ -8,7 +8,7 @@ use Prim.Native.Nat.{ℕ, ◌≤◌, ◌<◌, zero-le}
 use native.Mathlib.Omega.{arith}
 use lib.ListN.{length, length-append}
 use Rattle.sequences.specs.Distinct.{More}
-use Rattle.sequences.specs.Rising.{Rising, RisingRows, arranged}
+use Rattle.sequences.specs.Rising.{Rising, arranged}
 use Rattle.sequences.proofs.Distinct.{rising-distinct, more-iff, distinct-length}
 use Rattle.sequences.proofs.Rising.{arranged-rising, in-arranged, rising-rows, rows-onto}
 use Rattle.bitset.specs.Families.{Least}
@@ -22,7 +22,7 @@ use Rattle.listing.specs.List.{mincuts}
 use Rattle.rooms.specs.declared.Extent.{Extent}
 use Rattle.rooms.specs.declared.Extent.TheVariants.{Any, All}
 use Rattle.rooms.specs.Silences.{to, Silences, Package}
-use Rattle.rooms.specs.Rooms.{added, sets_from, sets_for, step_need, room_need, needs_from, needs, rooms_refusal, rooms_listed_by, RoomsListing, RoomsMean}
+use Rattle.rooms.specs.Rooms.{added, sets_from, sets_for, step_need, room_need, needs_from, rooms_refusal, rooms_listed_by, RoomsListing, RoomsMean}
 use Rattle.rooms.proofs.Sets.{sets-least, silences-same}
 use Rattle.rooms.proofs.Steps.{sets-next}
 use Rattle.rooms.proofs.Refusals.{no-package-iff, short-iff, outnumbered-iff, complete-iff}

@@ -7,7 +7,7 @@ use mathlib.Core.Path.{◌≡◌, refl, sym, ap, ◌∙◌}
 use mathlib.Core.Bool.{Bool, true, false, not, ◌&&◌}
 use mathlib.Core.List.Memᴰ
 use mathlib.Core.List.{List, [], ◌∷◌, Memᴰ, ◌++◌}
-use mathlib.Core.Logic.{◌⊎◌, inl, inr, ◌↔◌}
+use mathlib.Core.Logic.{inl, inr, ◌↔◌}
 use Prim.Native.Nat.{ℕ, suc, ◌+◌, ◌≤◌, ◌<◌, zero-le}
 use native.Mathlib.Numerals.{add-one}
 use native.Mathlib.Omega.{arith}
@@ -20,7 +20,7 @@ use Rattle.sequences.proofs.Tests.{T_and, T_not, T-then, T-eqb}
 use Rattle.bitset.specs.Members.{◌∈◌, has, insert}
 use Rattle.bitset.proofs.Sets.{in_insert, not-zero}
 use Rattle.network.specs.declared.Network.{Network}
-use Rattle.network.specs.Record.{◌when◌, ◌then◌, fault_of}
+use Rattle.network.specs.Record.{◌when◌, fault_of}
 use Rattle.network.proofs.Refusals.{some_then, none_then, some-when, none-when}
 use Rattle.rooms.specs.declared.Asked.{Asked}
 use Rattle.rooms.specs.Silences.{Package}

@@ -3,7 +3,7 @@
 --
 --   Silent e N ts h      h silences one of the rooms ts, or all, by the extent e; h may hold edges that are not present
 --   Clean l              l rises, and is tidied up
-use mathlib.Core.Path.{◌≡◌, refl, sym, ap, ◌∙◌}
+use mathlib.Core.Path.{◌≡◌, refl, sym}
 use mathlib.Core.List.Memᴰ
 use mathlib.Core.List.{List, [], ◌∷◌, ◌++◌, append_assoc, append-nil, Memᴰ}
 use mathlib.Core.Logic.Iff
@@ -12,22 +12,19 @@ use Prim.Native.Nat.{ℕ, ◌<◌}
 use native.Mathlib.Nat.{not-suc-le-zero}
 use lib.Bits.{bit_and}
 use lib.ListN.{length}
-use Rattle.sequences.specs.Rising.{Rising, arranged}
-use Rattle.sequences.proofs.Rising.{in-arranged}
-use Rattle.bitset.specs.Families.{Least, Holds}
+use Rattle.sequences.specs.Rising.{Rising}
+use Rattle.bitset.specs.Families.{Least}
 use Rattle.bitset.specs.Members.{◌⊆◌, ◌∖◌}
 use Rattle.bitset.proofs.Families.{least-same}
 use Rattle.bitset.proofs.Sets.{in_and, in-minus, same_set}
-use Rattle.bitset.proofs.Subsets.{⊆-refl, ⊆-trans, ⊆-antisym}
+use Rattle.bitset.proofs.Subsets.{⊆-trans}
 use Rattle.network.specs.declared.Network.{Network}
 use Rattle.network.specs.Record.{Stored, fault_of, present}
-use Rattle.network.specs.Rules.{Rules}
 use Rattle.network.proofs.Rules.{fault-rules}
-use Rattle.graph.specs.Cuts.{only, Cut, Mincut, Silenced, without}
-use Rattle.graph.specs.Paths.{Minpath}
+use Rattle.graph.specs.Cuts.{Silenced}
 use Rattle.graph.specs.Reach.{Bounded}
 use Rattle.graph.proofs.Cuts.{holds-silenced}
-use Rattle.graph.proofs.Sound.{Sound, accepted-sound}
+use Rattle.graph.proofs.Sound.{accepted-sound}
 use Rattle.clutters.specs.Clutters.{HoldsOne, tidy, unions}
 use Rattle.clutters.proofs.Clutters.{holds-append, holds-unions, in-tidy, tidy-rising, tidy-holds, clutter-least}
 use Rattle.listing.specs.List.{mincuts}

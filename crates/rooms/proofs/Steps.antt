@@ -7,7 +7,7 @@ use mathlib.Core.Path.{◌≡◌, refl, sym, ap, ◌∙◌}
 use mathlib.Core.Bool.{false}
 use mathlib.Core.List.Memᴰ
 use mathlib.Core.List.{List, [], ◌∷◌, ◌++◌, append_assoc, append-nil, Memᴰ}
-use mathlib.Core.Logic.{inl, inr, ◌↔◌}
+use mathlib.Core.Logic.{inl, inr}
 use Prim.Native.Nat.{ℕ, suc, ◌+◌, ◌*◌, ◌-◌, ◌/◌, ◌^◌, min, ◌≤◌, ◌<◌}
 use native.Mathlib.Decide.{dec_lt}
 use native.Mathlib.Nat.{sub-zero, mul-suc, mul_comm, le-div_iff_mul-le}
@@ -15,7 +15,7 @@ use native.Mathlib.Numerals.{add-one}
 use native.Mathlib.Omega.{arith}
 use borrow.Rule.Slice.PartMut.{mid_of, put_mid, post_of, same_len_mid, mid_len, take_put}
 use lib.ListN.{length, take, drop, set, replicate, drop_of_length-le, length-map, length-take, length-replicate, get_or-replicate}
-use lib.Seq.{sets, length-sets, take_all, take_at, drop_at, take-add, take-append-le, length-take-le}
+use lib.Seq.{length-sets, take_all, take_at, drop_at, take-add, take-append-le, length-take-le}
 use Rattle.sequences.specs.Words.{onto}
 use Rattle.sequences.proofs.Stores.{onto-next}
 use Rattle.sequences.proofs.Words.{length-onto}

@@ -1,7 +1,6 @@
-use borrow.Author.Rules.{rules}
 -- `part_at` meets its contract. The invariant: none of the places before has a set that lies inside the given one. The measure is the number
 -- of places left. Assumes nothing.
-use Prim.Native.Nat.{◌-◌, zero-le}
+use Prim.Native.Nat.{zero-le}
 use native.Mathlib.Nat.{not-suc-le-zero}
 use native.Mathlib.Omega.{arith}
 use Rattle.clutters.proofs.Steps.{part-found, next-searched, last-searched}

@@ -1,4 +1,3 @@
-use borrow.Author.Rules.{rules}
 -- `part_at` meets its contract. The invariant: none of the places before has a set that lies inside the given one. The measure is the number
 -- of places left. Assumes nothing.
 use Prim.Native.Nat.{◌-◌}

@@ -8,7 +8,7 @@ use Rattle.branches.specs.Enumeration.{joined}
 use Rattle.enumeration.specs.Tables.{Tables}
 use Rattle.parts.specs.Parts.{Hangs}
 use Rattle.enumeration.specs.Rows.{Fed, Whole}
-use Rattle.enumeration.proofs.Halves.{flip, sink-left, joined-fed, joined-whole}
+use Rattle.enumeration.proofs.Halves.{sink-left, joined-fed, joined-whole}
 use Rattle.enumeration.proofs.Halves.{whole-hangs, undecided-fewer, candidate-free, join-half, shut-put, leaf-put, split-put}
 use Prim.Native.Nat.{◌<◌}
 use mathlib.Core.Path.{◌≡◌, refl}

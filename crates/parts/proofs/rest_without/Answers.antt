@@ -1,7 +1,7 @@
 use mathlib.Core.Path.{◌≡◌, sym, ◌∙◌}
 use mathlib.Core.Bool.{false}
 use Prim.Native.Nat.{ℕ, ◌^◌}
-use borrow.Author.Tests.{eqb-true, eqb-false, not-true}
+use borrow.Author.Tests.{eqb-true, eqb-false}
 use denote.Floats.{passes}
 use Rattle.bitset.specs.Members.{has, ◌∈◌, ◌∖◌}
 use Rattle.bitset.proofs.Sets.{in-drop}

@@ -1,9 +1,6 @@
 use mathlib.Core.Path.{◌≡◌, refl, ◌∙◌}
-use mathlib.Core.Logic.{inl, inr}
-use Prim.Native.Nat.{◌-◌}
 use native.Mathlib.Omega.{arith}
 use borrow.Author.Rules.{rules}
-use borrow.Author.Tests.{not-false}
 use Rattle.bitset.proofs.Results.{empty-zero}
 use Rattle.graph.specs.CutTests.{severed}
 use Rattle.graph.proofs.Cuts.{severed-settled}

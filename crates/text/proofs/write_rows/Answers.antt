@@ -1,4 +1,3 @@
-use Prim.Native.Nat.{◌-◌}
 use borrow.Author.Rules.{rules}
 use Rattle.text.proofs.Written.{left-all, left-length}
 use Rattle.text.proofs.Rows.{lines-all, room_row, left-row, left-rows}

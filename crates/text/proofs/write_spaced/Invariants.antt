@@ -1,7 +1,7 @@
 -- `write_spaced` meets its contract. The loop's invariant: the numbers of `rest` are left to be written.
 -- The measure is how many these are. Assumes nothing.
 use mathlib.Core.List.{List}
-use Prim.Native.Nat.{ℕ, ◌-◌, ◌^◌, ◌<◌}
+use Prim.Native.Nat.{ℕ, ◌^◌, ◌<◌}
 use lib.ListN.{length}
 use Rattle.bitset.specs.Members.{members}
 use Rattle.text.specs.Text.{spaced}

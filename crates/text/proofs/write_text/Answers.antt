@@ -1,4 +1,3 @@
-use Prim.Native.Nat.{◌-◌}
 use borrow.Author.Rules.{rules}
 use Rattle.text.proofs.Bytes.{sets-next, sets-all}
 use Rattle.text.proofs.write_text.Goals as goal

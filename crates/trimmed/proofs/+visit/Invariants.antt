@@ -1,7 +1,6 @@
 -- `visit` meets its contract. The invariant: the visit of v is under way. Both measures are how far the number of the visited set is from
 -- the number of all sets, which it stays below. Assumes nothing.
 use mathlib.Core.List.{List}
-use mathlib.Core.Logic.Dec
 use Prim.Native.Nat.{ℕ, ◌-◌, ◌^◌, ◌<◌}
 use Rattle.node_set.specs.Width.{node_width}
 use Rattle.trimmed.proofs.Visits.{Visiting}

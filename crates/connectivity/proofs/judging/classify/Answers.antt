@@ -2,7 +2,6 @@
 -- Assumes nothing.
 use mathlib.Core.Path.{◌≡◌, sym, ◌∙◌}
 use mathlib.Core.Bool.{true}
-use borrow.Author.Tests.{not-false}
 use Rattle.bitset.specs.Members.{◌⊆◌}
 use Rattle.network.specs.Record.{fault_of, present, Stored}
 use Rattle.network.proofs.Sets.{set-ok}
