@@ -29,7 +29,7 @@ fn print_parts<'a>(parts: impl Iterator<Item = &'a [u8]>, pause: Duration) -> St
         .stdout(Stdio::piped())
         .stderr(Stdio::piped())
         .spawn()
-        .unwrap_or_else(|e| panic!("{}: {e}; `rt check list` makes it", program.display()));
+        .unwrap_or_else(|e| panic!("{}: {e}; `./cutlist` makes it", program.display()));
     let mut input = child.stdin.take().expect("a pipe");
     for part in parts {
         // An input that is decided before its end may be left unread.

@@ -1,5 +1,5 @@
 -- The enumeration of source sides (the paper's near sides), as it is computed: a node beside the side joins it, or is left out for good.
--- Computed: explained by in-rows, cuts-once (branches/proofs/Complete).
+-- Computed: explained by in_rows, cuts-once (branches/proofs/Complete).
 --
 -- A `Branch` (src/lib.rt) is a side in the making:
 --       side             what has joined: a connected set with the source

@@ -1,5 +1,5 @@
 -- The reachable set (the paper's reach), as it is computed.
--- Computed: explained by in-reach (graph/proofs/Reach).
+-- Computed: explained by in_reach (graph/proofs/Reach).
 --
 --   across N s k t       t with each end of the edge k whose other end is in s
 --   edge_list N           the present edges, rising

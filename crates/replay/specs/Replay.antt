@@ -3,7 +3,7 @@
 --
 --   byte_of b                     1 for silent, 0 for not
 --   silent_byte N log i           whether the room is silent after event i
---   silent_bytes N log            the same for each event of the log  [computed: bytes-count, bytes-tell (replay/proofs/Meaning)]
+--   silent_bytes N log            the same for each event of the log  [computed: bytes_count, bytes-tell (replay/proofs/Meaning)]
 --   replay_refusal N log lent     the call's refusal for a network, a log and lent bytes, 0 if there is none
 --   replayed_by N log lent        its answer
 --   silent_after N log lent       the lent bytes afterwards

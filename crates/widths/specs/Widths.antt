@@ -2,7 +2,7 @@
 -- To believe.
 --
 --   pairs_of N c          the different pairs of nodes that the members of c join, each once
---                        [computed: in-pairs, pairs-distinct (widths/proofs/Pairs)]
+--                        [computed: in_pairs, pairs-distinct (widths/proofs/Pairs)]
 --   width_of N c          how many these are: the width of a row c
 --   width_table N cuts    for each width from 0 to 64, how many of the rows `cuts` have it
 --   widths_of N cuts      the call's answer: the refusal beside the table, all 0 on refusal
