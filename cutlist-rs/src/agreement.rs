@@ -180,8 +180,8 @@ fn lists_of_refusals_agree() {
     let numbers =
         |list: &str, parting: &str| -> Vec<u8> { list.split(parting).map(number).collect() };
     for (specified, name, tested) in [
-        (READER_SPECIFIED, "readerRefusals", "READING"),
-        (RECORD_SPECIFIED, "recordRefusals", "FAULTS"),
+        (READER_SPECIFIED, "reader_refusals", "READING"),
+        (RECORD_SPECIFIED, "record_refusals", "FAULTS"),
     ] {
         let specified = between(specified, &format!("{name} = "), " ∷ []");
         let tested = between(REFERENCE, &format!("{tested}: &[u8] = &["), "]");
@@ -275,7 +275,7 @@ fn the_most_points_agree() {
     for (text, before, after) in [
         (NODES, "const NODE_WIDTH: u32 = ", ";"),
         (NODES, "type NodeWord = u", ";"),
-        (NODES_SPECIFIED, "nodeWidth = ", "\n"),
+        (NODES_SPECIFIED, "node_width = ", "\n"),
         (NODES_TESTED, "const MOST_NODES: u8 = ", ";"),
     ] {
         assert_eq!(number::<usize>(between(text, before, after)), most);
@@ -307,7 +307,7 @@ fn sizes_agree() {
     assert_eq!(number::<usize>(proved), longest);
 
     let deciding = size_of_the_header("CUTLIST_DECIDING_BYTES");
-    let proved = between(DECIDING_PROVED, "decodeOf (take ", " s)");
+    let proved = between(DECIDING_PROVED, "decode_of (take ", " s)");
     assert_eq!(number::<usize>(proved), deciding);
     for text in [DECIDING_READ, DECIDING_FED] {
         let stated = between(text, "const DECIDING: usize = ", ";");

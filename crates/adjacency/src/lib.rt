@@ -34,20 +34,54 @@ fn link(adjacent: &mut [NodeWord; NODES], a: u8, b: u8)
     }
 }
 
+// Fills the table in with the neighbours by the edges of the set, in place of what stood there. A table of the caller's own costs no copy.
+pub fn fill(adjacent: &mut [NodeWord; NODES], network: Network, edges: EdgeSet)
+    requires { (fault_of network ≡ 0) × (edges.0 ⊆ present network) }
+    ensures { Adjacency (only network edges.0) adjacent.new }
+{
+    *adjacent = [0; NODES];
+    let mut left = edges;
+    loop {
+        let k = left.lowest();
+        let past = 64 <= k;
+        if past {
+            return;
+        }
+        let at = k as usize;
+        link(adjacent, network.first[at], network.second[at]);
+        left = left.without_lowest();
+    }
+}
+
 // The table of an accepted network with the edges of the set alone.
 pub fn adjacency(network: Network, edges: EdgeSet) -> [NodeWord; NODES]
     requires { (fault_of network ≡ 0) × (edges.0 ⊆ present network) }
     ensures { Adjacency (only network edges.0) result }
 {
     let mut adjacent: [NodeWord; NODES] = [0; NODES];
-    let mut left = edges;
+    fill(&mut adjacent, network, edges);
+    adjacent
+}
+
+// Takes a node out of the table, with every neighbour that it has.
+pub fn leave_out(others: &mut [NodeWord; NODES], c: u8)
+    requires { (c < node_width) × Mutual others.old }
+    ensures { (v w : ℕ) → (w ∈ get_or others.new v 0) ↔ ((w ∈ get_or others.old v 0) × (v ≡ c → ⊥) × (w ≡ c → ⊥)) }
+{
+    let slot = c as usize;
+    let gone = others[slot];
+    others[slot] = 0;
+    // The other nodes that have c in their rows.
+    let mut left = NodeSet(gone).without(c as u32);
     loop {
-        let k = left.lowest();
-        if 64 <= k {
-            return adjacent;
+        let v = left.lowest();
+        if NODE_WIDTH <= v {
+            return;
         }
-        let at = k as usize;
-        link(&mut adjacent, network.first[at], network.second[at]);
+        let at = v as usize;
+        let row = others[at];
+        let beside = NodeSet(row).without(c as u32);
+        others[at] = beside.0;
         left = left.without_lowest();
     }
 }
@@ -58,20 +92,6 @@ pub fn without_node(adjacent: &[NodeWord; NODES], c: u8) -> [NodeWord; NODES]
     ensures { (v w : ℕ) → (w ∈ get_or result v 0) ↔ ((w ∈ get_or adjacent.now v 0) × (v ≡ c → ⊥) × (w ≡ c → ⊥)) }
 {
     let mut others = *adjacent;
-    let slot = c as usize;
-    let gone = adjacent[slot];
-    others[slot] = 0;
-    // The other nodes that have c in their rows.
-    let mut left = NodeSet(gone).without(c as u32);
-    loop {
-        let v = left.lowest();
-        if NODE_WIDTH <= v {
-            return others;
-        }
-        let at = v as usize;
-        let row = others[at];
-        let beside = NodeSet(row).without(c as u32);
-        others[at] = beside.0;
-        left = left.without_lowest();
-    }
+    leave_out(&mut others, c);
+    others
 }

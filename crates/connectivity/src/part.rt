@@ -7,7 +7,7 @@ ghost use Rattle.adjacency.specs.Adjacency.{Adjacency};
 ghost use Rattle.connectivity.specs.Answers.{relevant_of, PartMeans};
 
 use crate::RelevantPart;
-use adjacency::{adjacency, without_node};
+use adjacency::{fill, leave_out};
 use edge_set::EdgeSet;
 use network::Network;
 use node_set::{NODES, NodeSet, NodeWord};
@@ -57,7 +57,8 @@ fn past(network: Network, adjacent: &[NodeWord; NODES], c: u8) -> NodeSet
     requires { (fault_of network ≡ 0) × (c < network.nodes) × Adjacency network adjacent.now }
     ensures { result.0 ≡ past network c }
 {
-    let others = without_node(adjacent, c);
+    let mut others = *adjacent;
+    leave_out(&mut others, c);
     let all = NodeSet::below(network.nodes as u32);
     let source = NodeSet::single(network.source as u32);
     let terminals = source.with(network.sink as u32);
@@ -72,7 +73,8 @@ fn relevant_nodes(network: Network) -> NodeSet
     requires { fault_of network ≡ 0 }
     ensures { result.0 ≡ relevant_nodes network }
 {
-    let adjacent = adjacency(network, network.present);
+    let mut adjacent: [NodeWord; NODES] = [0; NODES];
+    fill(&mut adjacent, network, network.present);
     let mut nodes = past(network, &adjacent, network.source);
     let others = nodes.without(network.source as u32);
     let mut c: u8 = 0;

@@ -4,10 +4,10 @@ ghost use Rattle.bitset.specs.Decides.{Decides};
 ghost use Rattle.network.specs.Record.{fault_of};
 ghost use Rattle.graph.specs.CutTests.{severed, Settled};
 
-use adjacency::adjacency;
+use adjacency::fill;
 use edge_set::EdgeSet;
 use network::Network;
-use node_set::NodeSet;
+use node_set::{NODES, NodeSet, NodeWord};
 use spread::reach;
 
 // Whether without the edges of the set the source does not reach the sink.
@@ -17,7 +17,8 @@ pub fn severed(network: Network, set: EdgeSet) -> bool
 {
     let present = network.present;
     let edges = present.difference(set);
-    let adjacent = adjacency(network, edges);
+    let mut adjacent: [NodeWord; NODES] = [0; NODES];
+    fill(&mut adjacent, network, edges);
     let all = NodeSet::below(network.nodes as u32);
     let start = NodeSet::single(network.source as u32);
     let reached = reach(&adjacent, all, start);

@@ -31,7 +31,8 @@ fn total_metres(network: Network, set: EdgeSet) -> u32
     let mut left = set;
     loop {
         let k = left.lowest();
-        if 64 <= k {
+        let past = 64 <= k;
+        if past {
             return total;
         }
         total = total + (metres_of(network, k) as u32);

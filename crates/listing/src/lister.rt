@@ -28,14 +28,16 @@ fn list_part(
         × (sides.new ≡ side_rows_after network cuts.old sides.old) }
 {
     let lent = cuts.len();
-    if lent != sides.len() {
+    let differ = lent != sides.len();
+    if differ {
         return Listed {
             refusal: ROWS_DIFFER,
             count: 0,
         };
     }
     let count = fill(network, nodes, edges, cuts, sides);
-    if lent < count {
+    let too_many = lent < count;
+    if too_many {
         return Listed {
             refusal: TOO_MANY_CUTS,
             count: 0,

@@ -18,7 +18,8 @@ pub fn size_fault(nodes: u8) -> u8
     if nodes < 2 {
         return BAD_NODE_COUNT;
     }
-    if NODE_WIDTH < nodes as u32 {
+    let too_many = NODE_WIDTH < nodes as u32;
+    if too_many {
         return BAD_NODE_COUNT;
     }
     0
@@ -31,7 +32,8 @@ fn outside_fault(refusal: u8, nodes: u8, a: u8, b: u8) -> u8
     if nodes <= a {
         return refusal;
     }
-    if nodes <= b {
+    let past = nodes <= b;
+    if past {
         return refusal;
     }
     0
@@ -63,10 +65,12 @@ fn absent_fault(first: u8, second: u8, metres: u16) -> u8
     if 0 < first {
         return ABSENT_EDGE_NOT_ZERO;
     }
-    if 0 < second {
+    let joined = 0 < second;
+    if joined {
         return ABSENT_EDGE_NOT_ZERO;
     }
-    if 0 < metres {
+    let measured = 0 < metres;
+    if measured {
         return ABSENT_EDGE_NOT_ZERO;
     }
     0

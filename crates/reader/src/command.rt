@@ -43,7 +43,8 @@ fn length_fault(before: u8, edge: u8, metres: u16) -> u8
     if edge != before {
         return BAD_LENGTH;
     }
-    if metres == 0 { BAD_LENGTH } else { 0 }
+    let unmeasured = metres == 0;
+    if unmeasured { BAD_LENGTH } else { 0 }
 }
 
 // 50, point count.
@@ -98,7 +99,8 @@ fn edge_at(plan: &[u8], at: usize, nodes: u8, next: u8) -> Step
     }
     let command = plan[at];
     if command == END {
-        if 1 < plan.len() - at {
+        let trailing = 1 < plan.len() - at;
+        if trailing {
             return Step::Refused(TRAILING_BYTE);
         }
         return Step::End;
@@ -106,7 +108,8 @@ fn edge_at(plan: &[u8], at: usize, nodes: u8, next: u8) -> Step
     if command != EDGE {
         return Step::Refused(UNFIT_COMMAND);
     }
-    if plan.len() - at < 4 {
+    let short = plan.len() - at < 4;
+    if short {
         return Step::Refused(TRUNCATED);
     }
     let edge = plan[at + 1];
@@ -131,7 +134,8 @@ fn length_at(plan: &[u8], at: usize, before: u8) -> Step
         return Step::Length(0);
     }
     let left = plan.len() - at;
-    if left < 4 {
+    let short = left < 4;
+    if short {
         return Step::Refused(TRUNCATED);
     }
     let edge = plan[at + 1];

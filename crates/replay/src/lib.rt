@@ -64,7 +64,8 @@ fn change(down: EdgeSet, command: u8, edge: u8) -> EdgeSet
     requires { edge < 64 }
     ensures { result.0 ≡ changed command down.0 edge }
 {
-    if command == DOWN {
+    let falls = command == DOWN;
+    if falls {
         down.with(edge as u32)
     } else {
         down.without(edge as u32)

@@ -33,7 +33,8 @@ pub fn report(plan: &[u8; DECIDING], read: usize, page: &mut [u8; MAX_TEXT]) -> 
     let mut cuts = [0u64; MAX_ROWS];
     let mut sides: [NodeWord; MAX_ROWS] = [0; MAX_ROWS];
     let listed = listing::list(decoded.network, &mut cuts, &mut sides);
-    if listed.refusal != 0 {
+    let refused = listed.refusal != 0;
+    if refused {
         return text::put_refusal(page, listed.refusal);
     }
     text::put_list(page, &cuts, &sides, listed.count)

@@ -18,7 +18,8 @@ fn slot_length(present: bool, metres: u16) -> usize
     if !present {
         return 0;
     }
-    if 0 < metres {
+    let measured = 0 < metres;
+    if measured {
         return 8;
     }
     4
@@ -55,7 +56,8 @@ fn put_length(plan: &mut [u8], at: usize, edge: u8, metres: u16) -> usize
     requires { at + length (length_command edge metres) ≤ length plan.old }
     ensures { (result ≡ at + length (length_command edge metres)) × (plan.new ≡ sets plan.old at (length_command edge metres)) }
 {
-    if metres == 0 {
+    let unmeasured = metres == 0;
+    if unmeasured {
         return at;
     }
     plan[at] = LENGTH;

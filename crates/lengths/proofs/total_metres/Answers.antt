@@ -7,10 +7,10 @@ use Rattle.lengths.proofs.total_metres.Goals as goal
 pub loop-network-init : goal.loop-network-init
 loop-network-init c = record { whole = omega arith; room = omega (arith, members-most c.args.set.0) }
 
-pub returns-then-k-ge64 : goal.returns-then-k-ge64
-returns-then-k-ge64 c =
+pub returns-then-past : goal.returns-then-past
+returns-then-past c =
     let l = c.loop-network in
-    let none = total-none c.args.network l.left.0 _ c.lowest-k.ensures c.if-k-ge64.true in
+    let none = total-none c.args.network l.left.0 _ c.lowest-k.ensures c.if-past.true in
     (omega (arith, l.invariant.whole, none), omega (arith, l.invariant.room))
 
 pub overflow_add-total : goal.overflow_add-total
@@ -31,7 +31,7 @@ loop-network-preserved c =
     let low = c.lowest-k in
     let l = c.loop-network in
     let N = c.args.network in
-    let h = c.if-k-ge64.false in
+    let h = c.if-past.false in
     let metres = c.metres_of in
     record {
       whole = omega (arith, l.invariant.whole, total_first N l.left.0 low.result _ h low.ensures (less), metres.ensures);

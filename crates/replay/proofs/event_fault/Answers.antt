@@ -8,7 +8,10 @@ use Rattle.replay.proofs.event_fault.Goals as goal
 
 pub returns-then-not-is_command : goal.returns-then-not-is_command
 unfolding event_fault ◌when◌ ◌then◌
-returns-then-not-is_command c = rw (sym c.is_command.ensures ∙ c.if-not-is_command.true)
+returns-then-not-is_command c =
+    let unknown : event_fault c.args.present.0 c.args.command c.args.edge ≡ 16 =
+    rw (sym c.is_command.ensures ∙ c.if-not-is_command.true) in
+    sym unknown
 
 pub returns-then-not-contains : goal.returns-then-not-contains
 unfolding event_fault ◌when◌ ◌then◌

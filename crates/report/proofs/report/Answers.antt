@@ -11,21 +11,21 @@ returns-then-decoded-ne0 c = record {
       rw (whole, report-unread _ _ c.decode-decoded.ensures.value c.if-decoded-ne0.true) c.put_refusal.ensures;
 }
 
-pub returns-then-listed-ne0 : goal.returns-then-listed-ne0
-returns-then-listed-ne0 c = record {
+pub returns-then-refused : goal.returns-then-refused
+returns-then-refused c = record {
   printed = λ s e.
       let made = c.list-listed.ensures.value in
       let none = c.if-decoded-ne0.false in
-      let fault = c.if-listed-ne0.true in
+      let fault = c.if-refused.true in
       let whole = report-whole s c.first.ensures (search rules) e in
       let refused = report-refused _ _ c.decode-decoded.ensures.value none _ _ lent_rows lent_rows _ made.0 fault in
-      rw (whole, refused) c.put_refusal-then-listed-ne0.ensures;
+      rw (whole, refused) c.put_refusal-then-refused.ensures;
 }
 
 pub returns : goal.returns
 returns c = record {
   printed = λ s e.
-      let ok = c.if-listed-ne0.false in
+      let ok = c.if-refused.false in
       let made = c.list-listed.ensures.value in
       let none = c.if-decoded-ne0.false in
       let whole = report-whole s c.first.ensures (search rules) e in

@@ -8,10 +8,10 @@ use Rattle.writer.proofs.slot_length.Goals as goal
 pub returns-then-not-present : goal.returns-then-not-present
 returns-then-not-present c k a b = rw c.if-not-present.true
 
-pub returns-then-metres-gt0 : goal.returns-then-metres-gt0
-returns-then-metres-gt0 c k a b = rw (c.if-not-present.false, length_whole k c.args.metres (λ e. omega (arith, e, c.if-metres-gt0.true)))
+pub returns-then-measured : goal.returns-then-measured
+returns-then-measured c k a b = rw (c.if-not-present.false, length_whole k c.args.metres (λ e. omega (arith, e, c.if-measured.true)))
 
 pub returns : goal.returns
 returns c k a b =
-    let none : c.args.metres ≡ 0 = omega (arith, c.if-metres-gt0.false) in
+    let none : c.args.metres ≡ 0 = omega (arith, c.if-measured.false) in
     rw (c.if-not-present.false, length-absent k c.args.metres none)

@@ -12,8 +12,8 @@ use Rattle.connectivity.proofs.Nodes.{past-made}
 use borrow.Author.Rules.{rules}
 use Rattle.connectivity.proofs.part.past.Goals as goal
 
-pub without_node-others-requires : goal.without_node-others-requires
-without_node-others-requires c =
+pub leave_out-requires : goal.leave_out-requires
+leave_out-requires c =
     let sound : Sound c.args.network =
     accepted-sound c.args.network (search rules) c.requires.0 in
     (omega (arith, c.requires.1, (sound).small), adjacency-mutual c.args.network c.args.adjacent.now c.requires.2)
@@ -24,12 +24,12 @@ returns c =
     accepted-sound c.args.network (search rules) c.requires.0 in
     let others : let a = c.args in
     let N = a.network in
-    Adjacency (only N (edges_within N ((2 ^ N.nodes - 1) ∖ 2 ^ a.c))) c.without_node-others.result =
+    Adjacency (only N (edges_within N ((2 ^ N.nodes - 1) ∖ 2 ^ a.c))) c.leave_out.new.others =
     let a = c.args in
-    adjacency-without a.network (sound).bounded a.adjacent.now c.requires.2 a.c c.without_node-others.result c.without_node-others.ensures in
+    adjacency-without a.network (sound).bounded a.adjacent.now c.requires.2 a.c c.leave_out.new.others c.leave_out.ensures in
     let a = c.args in
     let N = a.network in
-    past-made N (sound) a.c c.requires.1 c.without_node-others.result _ _ _ _ _ _
+    past-made N (sound) a.c c.requires.1 c.leave_out.new.others _ _ _ _ _ _
     (others)
     c.below-all.ensures
     c.single-source.ensures

@@ -30,16 +30,16 @@ past-kept : (N : Network) → Sound N → (c nodes : ℕ) → nodes ≡ past_bef
 past-kept N S c nodes e off =
     (subset-and nodes (past N c)).0 (λ v m. past-others N S c off v ((in_and (past N N.source) (past_all N c) v).0 (rw e at m)).0)
 
-pub adjacency-adjacent-requires : goal.adjacency-adjacent-requires
-adjacency-adjacent-requires c = (c.requires, ⊆-refl (present c.args.network))
+pub fill-requires : goal.fill-requires
+fill-requires c = (c.requires, ⊆-refl (present c.args.network))
 
 pub past-nodes-requires : goal.past-nodes-requires
 unfolding only
 past-nodes-requires c =
     let sound : Sound c.args.network =
     accepted-sound c.args.network (search rules) c.requires in
-    let table : Adjacency c.args.network c.adjacency-adjacent.result =
-    c.adjacency-adjacent.ensures in
+    let table : Adjacency c.args.network c.fill.new.adjacent =
+    c.fill.ensures in
     (c.requires, (sound).source-lt, table)
 
 pub loop-c-init : goal.loop-c-init
@@ -51,8 +51,8 @@ loop-c-init c =
 pub past-requires : goal.past-requires
 unfolding only
 past-requires c =
-    let table : Adjacency c.args.network c.adjacency-adjacent.result =
-    c.adjacency-adjacent.ensures in
+    let table : Adjacency c.args.network c.fill.new.adjacent =
+    c.fill.ensures in
     (c.requires, c.loop-c-test.true, table)
 
 pub loop-c-preserved : goal.loop-c-preserved

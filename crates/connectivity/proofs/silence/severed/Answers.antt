@@ -16,8 +16,8 @@ use Rattle.adjacency.proofs.Reaching.{reached-all}
 use borrow.Author.Rules.{rules}
 use Rattle.connectivity.proofs.silence.severed.Goals as goal
 
-pub adjacency-adjacent-requires : goal.adjacency-adjacent-requires
-adjacency-adjacent-requires c =
+pub fill-requires : goal.fill-requires
+fill-requires c =
     let over : let a = c.args in
     c.difference-edges.result.0 ≡ present a.network ∖ a.set.0 =
     difference-minus _ _ _ c.difference-edges.ensures in
@@ -33,14 +33,14 @@ returns c =
     c.difference-edges.result.0 ≡ present a.network ∖ a.set.0 =
     difference-minus _ _ _ c.difference-edges.ensures in
     let table : let a = c.args in
-    Adjacency (without a.network a.set.0) c.adjacency-adjacent.result =
+    Adjacency (without a.network a.set.0) c.fill.new.adjacent =
     let a = c.args in
-    subst (λ (h : ℕ). Adjacency (only a.network h) c.adjacency-adjacent.result) (over) c.adjacency-adjacent.ensures in
+    subst (λ (h : ℕ). Adjacency (only a.network h) c.fill.new.adjacent) (over) c.fill.ensures in
     let a = c.args in
     let N = a.network in
     let S = sound in
     let from = single-power node_width N.source _ (omega (arith, S.source-lt, S.small)) c.single-start.ensures in
-    let reached = reached-all N S (present N ∖ a.set.0) (minus-⊆ (present N) a.set.0) c.adjacency-adjacent.result (table)
+    let reached = reached-all N S (present N ∖ a.set.0) (minus-⊆ (present N) a.set.0) c.fill.new.adjacent (table)
     c.below-all.result.0 c.single-start.result.0 _ c.below-all.ensures
     (λ v m. rw ((in-single N.source v).0 (rw from at m)) S.source-lt) c.reach-reached.ensures in
     rw (c.contains.ensures, reached, from)

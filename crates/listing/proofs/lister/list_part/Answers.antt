@@ -6,17 +6,17 @@ use Rattle.network.specs.Record.{Stored}
 use Rattle.listing.proofs.Call.{answered-unpaired, answered-unfilled, answered-complete}
 use Rattle.listing.proofs.lister.list_part.Goals as goal
 
-pub returns-then-lent-sides : goal.returns-then-lent-sides
-returns-then-lent-sides c = answered-unpaired _ _ _ c.requires.0 (λ e. omega (arith, c.if-lent-sides.true))
+pub returns-then-differ : goal.returns-then-differ
+returns-then-differ c = answered-unpaired _ _ _ c.requires.0 (λ e. omega (arith, c.if-differ.true))
 
-pub returns-then-lent-count : goal.returns-then-lent-count
-returns-then-lent-count c =
+pub returns-then-too_many : goal.returns-then-too_many
+returns-then-too_many c =
     let stored : Stored c.args.network =
     search rules in
-    answered-unfilled _ _ _ (stored) c.requires.0 c.if-lent-sides.false c.fill-count.ensures c.if-lent-count.true
+    answered-unfilled _ _ _ (stored) c.requires.0 c.if-differ.false c.fill-count.ensures c.if-too_many.true
 
 pub returns : goal.returns
 returns c =
     let stored : Stored c.args.network =
     search rules in
-    answered-complete _ _ _ (stored) c.requires.0 c.if-lent-sides.false c.fill-count.ensures c.if-lent-count.false _ _ c.sort_rows.ensures
+    answered-complete _ _ _ (stored) c.requires.0 c.if-differ.false c.fill-count.ensures c.if-too_many.false _ _ c.sort_rows.ensures

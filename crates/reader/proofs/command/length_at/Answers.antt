@@ -12,18 +12,18 @@ returns-then-plan-at-ne-LENGTH c =
     let a = c.args in
     length-another a.plan.now a.at a.before c.if-plan-at-ne-LENGTH.true
 
-pub returns-then-left-lt4 : goal.returns-then-left-lt4
-returns-then-left-lt4 c =
+pub returns-then-short : goal.returns-then-short
+returns-then-short c =
     let a = c.args in
-    length-missing a.plan.now a.at a.before c.if-plan-at-ne-LENGTH.false (omega (arith, c.if-left-lt4.true))
+    length-missing a.plan.now a.at a.before c.if-plan-at-ne-LENGTH.false (omega (arith, c.if-short.true))
 
 pub returns-then-fault-ne0 : goal.returns-then-fault-ne0
 returns-then-fault-ne0 c =
     let a = c.args in
-    refused _ _ c.if-fault-ne0.true ∙ length-values a.plan.now a.at a.before _ c.if-plan-at-ne-LENGTH.false c.if-left-lt4.false c.length_fault-fault.ensures
+    refused _ _ c.if-fault-ne0.true ∙ length-values a.plan.now a.at a.before _ c.if-plan-at-ne-LENGTH.false c.if-short.false c.length_fault-fault.ensures
 
 pub returns : goal.returns
 returns c =
     let a = c.args in
     let none = sym c.if-fault-ne0.false ∙ c.length_fault-fault.ensures in
-    length-values a.plan.now a.at a.before 0 c.if-plan-at-ne-LENGTH.false c.if-left-lt4.false none
+    length-values a.plan.now a.at a.before 0 c.if-plan-at-ne-LENGTH.false c.if-short.false none

@@ -13,19 +13,19 @@ returns-then-edge-before c =
     let a = c.args in
     simp (ne_eqb a.edge a.before (λ e. omega (arith, e, c.if-edge-before.true)))
 
-pub returns-then-metres-eq0 : goal.returns-then-metres-eq0
+pub returns-then-unmeasured : goal.returns-then-unmeasured
 unfolding length_fault ◌when◌
-returns-then-metres-eq0 c =
+returns-then-unmeasured c =
     let same : c.args.edge ≡ c.args.before =
     omega (arith, c.if-edge-before.false) in
     let a = c.args in
-    let none : a.metres ≡ 0 = omega (arith, c.if-metres-eq0.true) in
+    let none : a.metres ≡ 0 = omega (arith, c.if-unmeasured.true) in
     simp (eq-eqb a.edge a.before (same), eq-eqb a.metres 0 none)
 
-pub returns-else-metres-eq0 : goal.returns-else-metres-eq0
+pub returns-else-unmeasured : goal.returns-else-unmeasured
 unfolding length_fault ◌when◌
-returns-else-metres-eq0 c =
+returns-else-unmeasured c =
     let same : c.args.edge ≡ c.args.before =
     omega (arith, c.if-edge-before.false) in
     let a = c.args in
-    simp (eq-eqb a.edge a.before (same), ne_eqb a.metres 0 (λ e. omega (arith, e, c.if-metres-eq0.false)))
+    simp (eq-eqb a.edge a.before (same), ne_eqb a.metres 0 (λ e. omega (arith, e, c.if-unmeasured.false)))

@@ -3,10 +3,10 @@ use Rattle.bitset.proofs.Subsets.{⊆-refl}
 use Rattle.bitset.proofs.Scans.{Less, less-lowest, less-lt, none_left}
 use Rattle.node_set.specs.Width.{node_width}
 use Rattle.adjacency.proofs.Leaving.{parted-first, parted-next, parted-last}
-use Rattle.adjacency.proofs.without_node.Goals as goal
+use Rattle.adjacency.proofs.leave_out.Goals as goal
 
 pub loop-left-init : goal.loop-left-init
-loop-left-init c = record { word = search rules; parted = parted-first c.args.adjacent.now c.args.c c.requires.1 _ c.without-left.ensures }
+loop-left-init c = record { word = search rules; parted = parted-first c.args.others.now c.args.c c.requires.1 _ c.without-left.ensures }
 
 pub returns-then-v-ge-NODE_WIDTH : goal.returns-then-v-ge-NODE_WIDTH
 returns-then-v-ge-NODE_WIDTH c =
@@ -14,7 +14,7 @@ returns-then-v-ge-NODE_WIDTH c =
     let l = c.loop-left in
     let left = l.left.0 in
     let none = none_left node_width left left _ l.invariant.word (⊆-refl left) c.lowest-v.ensures c.if-v-ge-NODE_WIDTH.true in
-    parted-last a.adjacent.now a.c l.others left none l.invariant.parted
+    parted-last a.others.now a.c l.others left none l.invariant.parted
 
 pub loop-left-smaller : goal.loop-left-smaller
 loop-left-smaller c =
@@ -32,5 +32,5 @@ loop-left-preserved c =
     let l = c.loop-left in
     record {
       word = search rules;
-      parted = parted-next a.adjacent.now a.c l.others l.left.0 _ _ _ (less) c.without-beside.ensures l.invariant.parted;
+      parted = parted-next a.others.now a.c l.others l.left.0 _ _ _ (less) c.without-beside.ensures l.invariant.parted;
     }
