@@ -3,7 +3,7 @@
 --
 --   Adjacency N adjacent     row v of the table holds exactly the other nodes that an edge of N joins to v (the paper's neighbours of v)
 --   Mutual adjacent          each node is adjacent to those that are adjacent to it
---   with_member t a b         the table t with the member b more in row a
+--   with_member t a b        the table t with the member b more in row a
 --   linked t a b             the table t with a and b adjacent to each other, if they are two nodes
 use Rattle.std.specs.Prelude.{true, false, List, ◌↔◌, ◌≡◌, ℕ, eqb, get_or, set}
 use Rattle.bitset.specs.Members.{insert, ◌∈◌}

@@ -5,11 +5,11 @@
 --   k ∈ s            k is a member of s
 --   s ⊆ t            every member of s is a member of t
 --   insert s k       s with the member k  [computed: in_insert (bitset/proofs/Sets)]
---   add_if b s k      s with the member k where b holds, else s  [computed: in-add_if (bitset/proofs/Sets)]
+--   add_if b s k     s with the member k where b holds, else s  [computed: in-add_if (bitset/proofs/Sets)]
 --   s ∖ t            the members of s that are not in t  [computed: in-minus (bitset/proofs/Sets)]
 --   size w s         how many members s has below w
 --   Lowest w s r     r is the lowest member of s below w, and is w if there is none  [working]
---   members_from s k n    the members of s among the n numbers from k on, rising
+--   members_from s k n   the members of s among the n numbers from k on, rising
 --                    [computed: in_members, members-rising (bitset/proofs/MemberList)]
 --   members w s      the members of s below w, rising  [computed: in_members, members-rising (bitset/proofs/MemberList)]
 --   subsets w s      the subsets of the members of s below w, as numbers, rising

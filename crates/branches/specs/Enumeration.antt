@@ -9,22 +9,22 @@
 --       around           the side and the nodes beside it
 --       cut              the boundary of the side
 --
---   relevant_network N    N with the relevant edges alone; the M of the definitions below
+--   relevant_network N   N with the relevant edges alone; the M of the definitions below
 --   blank N              the branch in which nothing is decided yet
 --   candidate b          the lowest undecided node beside the side, the width if there is none
 --   joined M b v         the branch b with v joined
---   left_out b v          the branch b with v left out
+--   left_out b v         the branch b with v left out
 --   start N              the first branch: the source alone has joined, nothing is left out
---   is_open b             the sink still reaches all that is left out: otherwise the branch has no row
+--   is_open b            the sink still reaches all that is left out: otherwise the branch has no row
 --   Row                  a cut and the source side beside it
---   cuts_of l             the cuts of a list of rows
---   sides_of l            the sides of a list of rows
---   row_of b              the row of a branch without a candidate
---   branch_rows M n b     the rows of the branch b, with at most n candidates one after the other
---   rows_of M b           the rows of the branch b
---   rows_if t M b         the rows of the branch b if the test t holds, and else none: the branch is not entered
---   join_rows M b v       those in which v joins
---   leave_out_rows M b v   those in which v is left out
+--   cuts_of l            the cuts of a list of rows
+--   sides_of l           the sides of a list of rows
+--   row_of b             the row of a branch without a candidate
+--   branch_rows M n b    the rows of the branch b, with at most n candidates one after the other
+--   rows_of M b          the rows of the branch b
+--   rows_if t M b        the rows of the branch b if the test t holds, and else none: the branch is not entered
+--   join_rows M b v      those in which v joins
+--   leave_out_rows M b v  those in which v is left out
 --   rows N               the rows of the first branch: all mincuts of N, each beside its source side
 use Rattle.std.specs.Prelude.{Bool, true, false, List, [], ◌∷◌, ◌++◌, map, ℕ, zero, suc, ◌^◌, eqb, ltb}
 use Rattle.std.specs.Int.Bits.{bit_and, bit_or, bit_xor}

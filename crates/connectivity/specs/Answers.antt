@@ -1,16 +1,16 @@
 -- The answers of the calls, refusals included, and what they mean.
 -- To believe.
 --
---   part_from r n e       a relevant part from its fields: the refusal r beside the nodes n and the edges e
---   relevant_of N         the relevant part of N (the paper's useful part): its first fault beside two empty sets, else 0 beside the
+--   part_from r n e      a relevant part from its fields: the refusal r beside the nodes n and the edges e
+--   relevant_of N        the relevant part of N (the paper's useful part): its first fault beside two empty sets, else 0 beside the
 --                        relevant nodes and edges
 --   PartMeans N r n e    what the refusal r, the nodes n and the edges e mean as the relevant part of N
---   verdict_on N c        what c is, where nothing is refused  [computed: verdict-iff (connectivity/proofs/Answers)]
---   verdict_of N c        what c is, or the refusal
+--   verdict_on N c       what c is, where nothing is refused  [computed: verdict-iff (connectivity/proofs/Answers)]
+--   verdict_of N c       what c is, or the refusal
 --   Says N c v           what the verdict v says of c
 --   VerdictMeans N c v   what the verdict v on c means
 --   VerdictNumbers       the numbers of a verdict: that of the refusal, and that of the verdict
---   numbers_of v          the numbers of each case: that of the refusal is 0 beside a verdict, that of the verdict 0 beside a refusal
+--   numbers_of v         the numbers of each case: that of the refusal is 0 beside a verdict, that of the verdict 0 beside a refusal
 use Rattle.std.specs.Prelude.{true, false, ◌↔◌, ◌≡◌, ℕ, ◌<◌}
 use Rattle.bitset.specs.Members.{◌∈◌}
 use Rattle.network.specs.declared.Network.{Network}

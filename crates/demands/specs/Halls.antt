@@ -8,23 +8,23 @@
 --
 -- The table; what the paper leaves out is worked out by hand:
 --   bridge               the bridge
---   bar_cable             the bar cable
+--   bar_cable            the bar cable
 --   spur                 the spur
---   hanging_triangle      the hanging triangle
---   no_cable              two points, no cable
---   two_cables            two points, cables 0 and 1
---   in_a_row               two cables in a row
+--   hanging_triangle     the hanging triangle
+--   no_cable             two points, no cable
+--   two_cables           two points, cables 0 and 1
+--   in_a_row             two cables in a row
 --   exchanged            the same with the cables exchanged
 --   halls                all of these
 --
---   network_of h          the record read from the bytes
---   counts_of h           the 65 counts of the width table
+--   network_of h         the record read from the bytes
+--   counts_of h          the 65 counts of the width table
 --   same l m             whether two lists are equal  [computed: halls-established (demands/proofs/Halls)]
---   judged_test N j       whether what the table says of a judged set is what is computed
+--   judged_test N j      whether what the table says of a judged set is what is computed
 --                        [computed: halls-established (demands/proofs/Halls)]
---   hall_tests h          for each thing that the table says of a hall, whether it is what is computed from its bytes
+--   hall_tests h         for each thing that the table says of a hall, whether it is what is computed from its bytes
 --                        [computed: halls-established (demands/proofs/Halls)]
---   hall_test h           whether all of it is  [computed: halls-established (demands/proofs/Halls)]
+--   hall_test h          whether all of it is  [computed: halls-established (demands/proofs/Halls)]
 --   Established h        what the table says of a hall, by the definitions
 use Rattle.std.specs.Prelude.{Bool, true, false, ◌&&◌, ◌↔◌, ◌≡◌, ℕ, ◌-◌, ◌^◌, T, eqb, length, replicate}
 use Rattle.std.specs.Bool.{beq}

@@ -9,24 +9,24 @@
 --                        each row is the one that was printed
 --
 -- With another rule for a slot, or another walk over the cables' commands:
---   test_by slot most N       the record test by the fault of each slot, where so many points are the most
---   decode_by walk most s     the reader by what it reads into a network from the bytes after the first two commands
+--   test_by slot most N      the record test by the fault of each slot, where so many points are the most
+--   decode_by walk most s    the reader by what it reads into a network from the bytes after the first two commands
 --
 -- Cables had no metres:
 --   Unmeasured N         no slot of N has metres: it is a record of then
---   slot_unmeasured N k   the fault of slot k as it was
---   edges_unmeasured turns N next s       the edge commands and the end, read as they were
---   decode_unmeasured most s      the reader as it was
---   encode_unmeasured N   the bytes of N as they were written
+--   slot_unmeasured N k  the fault of slot k as it was
+--   edges_unmeasured turns N next s      the edge commands and the end, read as they were
+--   decode_unmeasured most s     the reader as it was
+--   encode_unmeasured N  the bytes of N as they were written
 --   LengthsKept most     a record of then gets the number and the bytes that it got; of plans the refusal 2 alone is lifted, and none without
 --                        the byte 4D; what was accepted is what is accepted and has no metres
 --
 -- Before that, both ends of a cable at one point were refused, as 10:
---   loop_fault a b        the rule: a cable's two ends at one point
---   slot_with_ten N k      the fault of slot k with it
---   fault_with_ten most N      the record test with it, where so many points are the most
---   edges_with_ten turns N next s      the edge commands and the end, read with it
---   decode_with_ten most s     the reader with it
+--   loop_fault a b       the rule: a cable's two ends at one point
+--   slot_with_ten N k    the fault of slot k with it
+--   fault_with_ten most N    the record test with it, where so many points are the most
+--   edges_with_ten turns N next s    the edge commands and the end, read with it
+--   decode_with_ten most s   the reader with it
 --   LoopsKept most       of records and plans the refusal 10 alone is lifted, so that record test and reader answer those without loops as
 --                        they did; and a network has one complete list
 --   FirstKept before     from the first rules, with at most so many points, to today's: any answer but 2, 4 and 10 is today's, so that what

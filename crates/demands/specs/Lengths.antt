@@ -3,7 +3,7 @@
 --
 --   EdgeFits N next k a b    the edge k from a to b has no fault where the least number allowed is `next`
 --   LengthPlaces         the command 4D, in each place: taken, or refused by which number
---   with_metres N l       N with the metres l
+--   with_metres N l      N with the metres l
 --   Accepted N           the record test accepts N, with what the types of the code say of it
 --   MetresUnread         whatever the metres, routes, minimal cuts and near sides are the same, and two records that are accepted and differ
 --                        in metres alone are answered alike; so is whether two lists are equal

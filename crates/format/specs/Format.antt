@@ -6,42 +6,42 @@
 --   Bytes s                   what the types of the code say of any bytes: each is below 256
 --   missing n s               the refusal 1: fewer than n bytes are left
 --   unfit c s                 the refusal 2: the first byte is not the command c
---   number_fault next k        the refusals 7 and 8 of an edge's number
---   length_fault before k m    the refusal 28 of a length of m metres for edge k, straight after the edge `before`
---   size_refusal most s        the first refusal of the command 50, 0 if it has none, where so many points are the most
---   terminals_refusal n s      that of 53, where there are n nodes
---   edge_refusal n next s      that of 43, where `next` is the least number allowed
---   end_refusal s              that of 45
---   metres_in s                the metres of a length's command, the high byte first
---   length_refusal before s    that of 4D, straight after the edge `before`
+--   number_fault next k       the refusals 7 and 8 of an edge's number
+--   length_fault before k m   the refusal 28 of a length of m metres for edge k, straight after the edge `before`
+--   size_refusal most s       the first refusal of the command 50, 0 if it has none, where so many points are the most
+--   terminals_refusal n s     that of 53, where there are n nodes
+--   edge_refusal n next s     that of 43, where `next` is the least number allowed
+--   end_refusal s             that of 45
+--   metres_in s               the metres of a length's command, the high byte first
+--   length_refusal before s   that of 4D, straight after the edge `before`
 --   answer r t                the refusal r as an answer, or t if there is none
---   size_step most s           the answer of the command 50: its values, or its refusal
---   terminals_step n s         that of 53
---   edge_step n next s         that of 43, or of 45, by the command byte
---   length_step before s       that of 4D, straight after the edge `before`; 0 metres where another byte stands, or none
---   step_of w s                the answer where w is awaited  [working]
+--   size_step most s          the answer of the command 50: its values, or its refusal
+--   terminals_step n s        that of 53
+--   edge_step n next s        that of 43, or of 45, by the command byte
+--   length_step before s      that of 4D, straight after the edge `before`; 0 metres where another byte stands, or none
+--   step_of w s               the answer where w is awaited  [working]
 --   Told                      what an answer says by the paper: its number, and the command's values
 --   told t                    what the answer t says
 --
 -- Reading:
---   reader_refusals            the numbers that the reader can give
+--   reader_refusals           the numbers that the reader can give
 --   accept N                  the reader's answer where it accepts
 --   refuse r                  its answer where it refuses: the all-zero record
---   if_taken t go_on            refused by the number of the answer t, or on with its values
---   length_size m              how many bytes there are of a length of m metres
+--   if_taken t go_on          refused by the number of the answer t, or on with its values
+--   length_size m             how many bytes there are of a length of m metres
 --   edges turns N next s      the edge commands with their lengths and the end, read into N, in at most so many turns
 --   walk N next s             the same in as many turns as it takes
---   decode_up_to most s         the bytes s read, where so many points are the most: the refusal's number beside the record
---   decode_of s                the same with the most that there may be
+--   decode_up_to most s       the bytes s read, where so many points are the most: the refusal's number beside the record
+--   decode_of s               the same with the most that there may be
 --
 -- Writing:
---   length_command k m         the bytes of a length of m metres for edge k
---   command_of k s             the bytes of slot k where it holds s
---   edge_command N k           the bytes of slot k of N
---   encode_of N                the bytes of N
---   encode_refusal N lent      the writer's refusal
---   encoded_by N lent          its answer: the refusal beside the count of bytes
---   bytes_after N lent         the lent buffer afterwards
+--   length_command k m        the bytes of a length of m metres for edge k
+--   command_of k s            the bytes of slot k where it holds s
+--   edge_command N k          the bytes of slot k of N
+--   encode_of N               the bytes of N
+--   encode_refusal N lent     the writer's refusal
+--   encoded_by N lent         its answer: the refusal beside the count of bytes
+--   bytes_after N lent        the lent buffer afterwards
 --   WrittenTo plan lent n buffer       the first n bytes of a plan stand in a lent buffer  [working]
 use Rattle.std.specs.Prelude.{cond, not, ◌||◌, ◌≡◌, ℕ, zero, suc, ◌+◌, ◌*◌, ◌/◌, ◌%◌, ◌≤◌, ◌<◌, ltb, eqb, length, get_or, take, drop}
 use mathlib.Core.List.{List, [], ◌∷◌, ◌++◌, flat_map}

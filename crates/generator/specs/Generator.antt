@@ -2,7 +2,7 @@
 -- To believe.
 --
 --   advanced n       the number that comes after n
---   draw_of n         what is drawn with the number n: its top 8 bits, so 0 to 255
+--   draw_of n        what is drawn with the number n: its top 8 bits, so 0 to 255
 --   number_after s k  the number after k draws from the start number s on
 use Rattle.std.specs.Prelude.{ℕ, zero, suc, ◌+◌, ◌*◌, ◌/◌, ◌%◌, ◌^◌}
 

@@ -3,9 +3,9 @@
 --
 --   reaches N h          over the edges of h the source reaches the sink  [computed: minpath-reach (graph/proofs/Cuts)]
 --   severed N c          without the edges of c the source does not reach the sink  [computed: severed-silenced (graph/proofs/Cuts)]
---   cut_test N c          whether c is a cut  [computed: cut_test-iff (graph/proofs/Cuts)]
---   all_needed N c        no member of c can be dropped: without the others alone the source reaches the sink
---   mincut_test N c       whether c is a mincut  [computed: mincut_test-iff (graph/proofs/Cuts)]
+--   cut_test N c         whether c is a cut  [computed: cut_test-iff (graph/proofs/Cuts)]
+--   all_needed N c       no member of c can be dropped: without the others alone the source reaches the sink
+--   mincut_test N c      whether c is a mincut  [computed: mincut_test-iff (graph/proofs/Cuts)]
 --   Settled b c d        what severs has grown, from c to d, or what does not has shrunk, where b says whether c severs: then b says it of d
 --                        too  [working]
 use Rattle.std.specs.Prelude.{Bool, true, false, not, ℕ, ◌^◌, eqb}

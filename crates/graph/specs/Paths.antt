@@ -4,9 +4,9 @@
 --   Joins N e u v        the edge e joins the nodes u and v
 --   Hop                  a step: along an edge, to a node
 --   Leads N u p v        the steps p, each along an edge to its other end, lead from u to v: a walk
---   nodes_from u p        the nodes that the steps p from u on meet
+--   nodes_from u p       the nodes that the steps p from u on meet
 --   Simple u p           the steps p from u on meet no node twice: a simple path
---   edges_of p            the set of the edges that the steps p take
+--   edges_of p           the set of the edges that the steps p take
 --   Minpath N r          r is the edge set of a simple path from source to sink (the paper's route)
 --   Connected N u v      some walk leads from u to v
 --   SameMinpaths N M     the two networks have the same minpaths (the paper's "same routes")

@@ -2,11 +2,11 @@
 -- Computed: explained by in_reach (graph/proofs/Reach).
 --
 --   across N s k t       t with each end of the edge k whose other end is in s
---   edge_list N           the present edges, rising
---   round_over N l s      s with every node that an edge of the list l joins to a node of s
+--   edge_list N          the present edges, rising
+--   round_over N l s     s with every node that an edge of the list l joins to a node of s
 --   rounds N l n s       at most n such rounds from s on, fewer if one adds nothing
 --   round N s            s with every node that a present edge joins to a node of s  [computed: in-round (graph/proofs/Reach)]
---   reach_of N s          the nodes that are connected to some node of s: every round but the last adds a node
+--   reach_of N s         the nodes that are connected to some node of s: every round but the last adds a node
 --   Closed N s           no present edge leads out of s  [working]
 --   Bounded N            the edges of N have numbers below 64, and their ends are below the node count  [working]
 use Rattle.std.specs.Prelude.{true, false, ℕ, zero, suc, ◌^◌, ◌<◌, eqb}

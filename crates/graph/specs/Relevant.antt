@@ -2,18 +2,18 @@
 -- Computed: explained by in-relevant_nodes, in-relevant_edges (graph/proofs/Relevant); trimmed-iff, untrimmed-iff (graph/proofs/Trimmed); in-source_side_of (graph/proofs/Correspondence).
 --
 --   chosen f n           the set of the numbers below n that pass the test f  [computed: in-chosen (graph/proofs/EdgeSets)]
---   edges_at N c          the present edges with an end at c  [computed: in-edges_at (graph/proofs/EdgeSets)]
---   two_in u a b          whether a and b are two different members of u
---   edges_within N u      the present edges that join two different nodes of u  [computed: in-edges_within (graph/proofs/EdgeSets)]
---   reach_in N u h        what h reaches by walks that stay inside u
+--   edges_at N c         the present edges with an end at c  [computed: in-edges_at (graph/proofs/EdgeSets)]
+--   two_in u a b         whether a and b are two different members of u
+--   edges_within N u     the present edges that join two different nodes of u  [computed: in-edges_within (graph/proofs/EdgeSets)]
+--   reach_in N u h       what h reaches by walks that stay inside u
 --   past N c             c, and what source and sink, whichever is not c, reach by walks over other nodes than c
---   past_all N n          the nodes of N that are in past N c for each c below n
---   relevant_nodes N      the relevant nodes  [computed: in-relevant_nodes (graph/proofs/Relevant)]
---   relevant_edges N      the relevant edges: those within the relevant nodes  [computed: in-relevant_edges (graph/proofs/Relevant)]
+--   past_all N n         the nodes of N that are in past N c for each c below n
+--   relevant_nodes N     the relevant nodes  [computed: in-relevant_nodes (graph/proofs/Relevant)]
+--   relevant_edges N     the relevant edges: those within the relevant nodes  [computed: in-relevant_edges (graph/proofs/Relevant)]
 --   trimmed N            whether N is trimmed: these are all nodes and all present edges  [computed: trimmed-iff, untrimmed-iff (graph/proofs/Trimmed)]
---   source_side_of N c     the source side of c  [computed: in-source_side_of (graph/proofs/Correspondence)]
---   crossing_of N g s     the edges of g with exactly one end in s  [computed: in-crossing_of (graph/proofs/EdgeSets)]
---   boundary_of N s       the relevant edges with exactly one end in s  [computed: in-boundary_of (graph/proofs/Correspondence)]
+--   source_side_of N c   the source side of c  [computed: in-source_side_of (graph/proofs/Correspondence)]
+--   crossing_of N g s    the edges of g with exactly one end in s  [computed: in-crossing_of (graph/proofs/EdgeSets)]
+--   boundary_of N s      the relevant edges with exactly one end in s  [computed: in-boundary_of (graph/proofs/Correspondence)]
 use Rattle.std.specs.Prelude.{Bool, not, ◌&&◌, ◌||◌, ℕ, zero, suc, ◌-◌, ◌^◌, eqb}
 use Rattle.std.specs.Bool.{xor}
 use Rattle.std.specs.Int.Bits.{bit_and}

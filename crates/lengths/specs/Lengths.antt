@@ -1,8 +1,8 @@
 -- The total metres of a set of edges, and what the call gives.
 -- To believe.
 --
---   total_metres N c      the metres of the members of c together; an edge that is not measured adds 0
---   total_of N c          the call's answer: the refusal beside the total, 0 on refusal
+--   total_metres N c     the metres of the members of c together; an edge that is not measured adds 0
+--   total_of N c         the call's answer: the refusal beside the total, 0 on refusal
 --   TotalMeans N c r m   what the refusal r and the total m mean for the set c
 use Rattle.std.specs.Prelude.{map, ◌↔◌, ◌≡◌, ℕ, ◌*◌, ◌≤◌}
 use Rattle.sequences.specs.Counts.{sum}

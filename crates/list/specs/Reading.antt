@@ -1,7 +1,7 @@
 -- What reading came to.
 -- To believe.
 --
---   input_of got n    what a read into n bytes came to that answered got: it failed if that is an error
+--   input_of got n   what a read into n bytes came to that answered got: it failed if that is an error
 --   Counted n r      the answer r counts at most n bytes, or says that a read failed
 use Rattle.std.specs.Prelude.{ℕ, ◌≤◌, min, Result, Ok, Err}
 use Rattle.list.specs.declared.Input.{Input}

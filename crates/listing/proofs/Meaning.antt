@@ -8,7 +8,7 @@ use lib.ListN.{length, get_or, length-map}
 use Rattle.sequences.proofs.Words.{get_or-onto}
 use Rattle.sequences.specs.Words.{onto}
 use Rattle.sequences.specs.Rising.{RisingRows}
-use Rattle.sequences.proofs.Places.{get_d_map}
+use Rattle.sequences.proofs.Places.{get_or-map}
 use Rattle.sequences.proofs.Rising.{rising-rows, rows-onto}
 use Rattle.sequences.proofs.Distinct.{rising-distinct, more-iff}
 use Rattle.network.specs.declared.Network.{Network}
@@ -38,7 +38,7 @@ mincuts-complete N S =
     let rows = mincuts-rows N S.bounded in record {
       rising = rows.rising;
       members = rows.members;
-      beside = λ i v h. rw (get_d_map (source_side_of N) l i h) (in-source_side_of N S (get_or l i 0) v);
+      beside = λ i v h. rw (get_or-map (source_side_of N) l i h) (in-source_side_of N S (get_or l i 0) v);
     }
 
 -- Written onto any rows, a complete list stays one.

@@ -10,7 +10,7 @@ use native.Mathlib.Nat.{ℕ_set}
 use native.Mathlib.Omega.{arith}
 use lib.ListN.{length, get_or, length-map}
 use lib.Seq.{ext_get_or}
-use Rattle.sequences.proofs.Places.{get_d_map, perm-length}
+use Rattle.sequences.proofs.Places.{get_or-map, perm-length}
 use Rattle.network.specs.declared.Network.{Network}
 use Rattle.sorting.specs.Sorted.{Sorted}
 use Rattle.sorting.proofs.Order.{sorted-unique, sorted-beside}
@@ -78,4 +78,4 @@ module _ (N : Network) (S : Sound N) where
         let paired : length sides ≡ length cuts = s.sides-length ∙ sym (rows-paired (rows N)) ∙ sym s.cuts-length in
         rw (← sorted-mincuts (sides_of (rows N)) cuts sides (rows-paired (rows N)) s) (ext_get_or 0 sides (map (source_side_of N) cuts) (paired ∙ sym (length-map cuts (source_side_of N))) (λ i h.
         let k : i < length cuts = rw paired at h in
-        sorted-side i k ∙ sym (get_d_map (source_side_of N) cuts i k)))
+        sorted-side i k ∙ sym (get_or-map (source_side_of N) cuts i k)))

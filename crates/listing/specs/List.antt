@@ -2,14 +2,14 @@
 -- To believe.
 --
 --   mincuts N                the mincuts of N, rising: the complete list  [computed: mincuts-complete (listing/proofs/Meaning)]
---   source_sides N            their source sides, each at the place of its mincut
---   listed_under r N              the answer of a call that lists N under the refusal r
---   cut_rows_under r N cuts        the lent cut rows after it
---   side_rows_under r N sides      the lent side rows after it
---   list_refusal N cuts sides     the list call's refusal for a network and lent rows, 0 if there is none
---   listed_by N cuts sides        its answer
---   cut_rows_after N cuts sides    the lent cut rows afterwards
---   side_rows_after N cuts sides   the lent side rows afterwards
+--   source_sides N           their source sides, each at the place of its mincut
+--   listed_under r N             the answer of a call that lists N under the refusal r
+--   cut_rows_under r N cuts      the lent cut rows after it
+--   side_rows_under r N sides    the lent side rows after it
+--   list_refusal N cuts sides    the list call's refusal for a network and lent rows, 0 if there is none
+--   listed_by N cuts sides       its answer
+--   cut_rows_after N cuts sides  the lent cut rows afterwards
+--   side_rows_after N cuts sides  the lent side rows afterwards
 --   Listing N cuts sides r n cuts' sides'     the call, lent `cuts` and `sides`, gives the refusal r and the count n and leaves cuts' and sides'
 --   ListMeans N cuts sides r n cuts' sides'     what it means that the call, lent `cuts` and `sides`, gave the refusal r and the count n
 --                            and left cuts' and sides'

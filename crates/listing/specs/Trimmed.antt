@@ -1,10 +1,10 @@
 -- The call that lists a network which was trimmed already: what it answers and leaves in the lent rows, and what that means.
 -- To believe.
 --
---   trimmed_refusal N cuts sides      the call's refusal for a network and lent rows, 0 if there is none
---   trimmed_listed_by N cuts sides     its answer
---   trimmed_cut_rows N cuts sides      the lent cut rows afterwards
---   trimmed_side_rows N cuts sides     the lent side rows afterwards
+--   trimmed_refusal N cuts sides     the call's refusal for a network and lent rows, 0 if there is none
+--   trimmed_listed_by N cuts sides   its answer
+--   trimmed_cut_rows N cuts sides    the lent cut rows afterwards
+--   trimmed_side_rows N cuts sides   the lent side rows afterwards
 --   TrimmedListing N cuts sides r n cuts' sides'     the call, lent `cuts` and `sides`, gives the refusal r and the count n and leaves cuts'
 --                            and sides'
 --   TrimmedMeans N cuts sides r n cuts' sides'     what it means that the call, lent `cuts` and `sides`, gave the refusal r and the count n

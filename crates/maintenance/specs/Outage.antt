@@ -1,11 +1,11 @@
 -- The call that counts the minutes of a week in which the room is open and silent: what it answers, and what that means.
 -- To believe.
 --
---   silent_minute N o w m     whether the minute m is open and the edges then out sever  [computed: silent-minute (maintenance/proofs/Meaning)]
---   silent_minutes N o w      how many minutes of the week are such  [computed: minutes-right (maintenance/proofs/Meaning)]
---   too_many o w              whether there are too many windows of either kind
---   outage_refusal N o w      the call's refusal for a network, opening windows and works windows, 0 if there is none
---   outage_of N o w           its answer
+--   silent_minute N o w m    whether the minute m is open and the edges then out sever  [computed: silent-minute (maintenance/proofs/Meaning)]
+--   silent_minutes N o w     how many minutes of the week are such  [computed: minutes-right (maintenance/proofs/Meaning)]
+--   too_many o w             whether there are too many windows of either kind
+--   outage_refusal N o w     the call's refusal for a network, opening windows and works windows, 0 if there is none
+--   outage_of N o w          its answer
 --   WindowRules p o w        the rules of both kinds of windows, where the edges p are present
 --   OutageMeans N o w r n    what it means that the call gave the refusal r and the minutes n
 use Rattle.std.specs.Prelude.{Bool, ◌&&◌, ◌||◌, List, ◌↔◌, ◌≡◌, ℕ, ◌≤◌, T, ltb}

@@ -1,10 +1,10 @@
 -- Minpaths that share no edge, and the fewest edges of a list of rows, as they are computed for a given list.
 -- Computed: explained by apart_test-apart, fewest_test-fewest (menger/proofs/Tests).
 --
---   minpath_test N r      whether r is a minpath: over it the source reaches the sink, and without any of its members it does not
+--   minpath_test N r     whether r is a minpath: over it the source reaches the sink, and without any of its members it does not
 --                        [computed: minpath_test-iff (menger/proofs/Tests)]
---   apart_test N l        whether the sets of l are minpaths no two of which share an edge
---   fewest_test cuts k    whether some row of the list has k edges, and none has fewer
+--   apart_test N l       whether the sets of l are minpaths no two of which share an edge
+--   fewest_test cuts k   whether some row of the list has k edges, and none has fewer
 use Rattle.std.specs.Prelude.{Bool, true, not, ◌&&◌, List, [], ◌∷◌, ℕ, ◌^◌, eqb, ltb}
 use Rattle.std.specs.Int.Bits.{bit_and}
 use Rattle.sequences.specs.Counts.{count_if}

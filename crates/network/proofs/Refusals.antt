@@ -1,4 +1,4 @@
--- The laws of `_when_`, `_then_` and `first_fault`, by which the rules are put together, and of `unless_refused`.
+-- The laws of `when`, `then` and `first_fault`, by which the rules are put together, and of `unless_refused`.
 -- Assumes nothing.
 use mathlib.Core.Bool.{Bool, true, false, ◌||◌, true≢false}
 use mathlib.Core.Path.{◌≡◌, refl, ap, ◌∙◌}

@@ -1,7 +1,7 @@
 -- The pair of points that an edge joins, and loops, which join a point to itself.
 -- To believe.
 --
---   ends_of N k       the pair of points that edge k joins, whichever end comes first: a set, of a loop that of its one point
+--   ends_of N k      the pair of points that edge k joins, whichever end comes first: a set, of a loop that of its one point
 --   Loop N k v       edge k is a loop at v: it is present, and both its ends are v
 --   Loopless N       no edge is a loop
 use Rattle.std.specs.Prelude.{◌≡◌, ℕ, ◌^◌}

@@ -5,41 +5,41 @@
 --   r then s         r unless it is 0, else s: the first fault decides
 --   first_fault f k n the first fault of the n places from k on, where that of place j is f j
 --   among l r        whether r is 0 or one of the numbers of l
---   unless_refused r a b      a, or b where r is a refusal: what a call gives, and what lent memory holds after it
+--   unless_refused r a b     a, or b where r is a refusal: what a call gives, and what lent memory holds after it
 --
 -- The rules of the paper's table "Who causes a refusal":
---   size_fault most n     that of the point count (4), where so many points are the most
---   outside_fault r n a b     the refusal r of two points of which one is not below the point count n
---   terminal_fault n a b      that of server and room (5, 6)
---   end_fault n a b   that of a cable's two ends (9); they may be one point
---   absent_fault a b m    that of an absent cable's two ends and metres (13)
+--   size_fault most n    that of the point count (4), where so many points are the most
+--   outside_fault r n a b    the refusal r of two points of which one is not below the point count n
+--   terminal_fault n a b     that of server and room (5, 6)
+--   end_fault n a b  that of a cable's two ends (9); they may be one point
+--   absent_fault a b m   that of an absent cable's two ends and metres (13)
 --
 -- The record test:
 --   slots            the numbers of the 64 edge slots, rising
 --   present N        the set of the edges present
---   has_edge N k      whether edge k is present
---   first_end N k     its first end
---   second_end N k    its second end
---   metres_of N k     its length in metres, 0 if it is not measured
+--   has_edge N k     whether edge k is present
+--   first_end N k    its first end
+--   second_end N k   its second end
+--   metres_of N k    its length in metres, 0 if it is not measured
 --   Slot             what a slot holds: whether its edge is present, its two ends, and its metres
 --   slot N k         what slot k holds
 --   slot_fault_of n s  the fault of a slot that holds s, where there are n nodes
---   slot_fault N k    the fault of slot k
+--   slot_fault N k   the fault of slot k
 --   slots_fault N k n the first fault of the n slots from k on
---   record_refusals   the numbers that the record test can give  [working]
+--   record_refusals  the numbers that the record test can give  [working]
 --   fault_up_to most N the record's first fault, 0 if it has none, where so many points are the most
---   fault_of N        the same with the most that there may be; a record is accepted if it is 0
---   all_present N c   whether every member of c is an edge present
---   edges_fault N b   the refusal of a call on N and edges, b being whether all are present: the record's first fault, then 14 if one is not
---   set_fault N c     that of a call on N and a set of edges c
---   rows_fault N l    that of a call on N and rows l, each a set of edges
+--   fault_of N       the same with the most that there may be; a record is accepted if it is 0
+--   all_present N c  whether every member of c is an edge present
+--   edges_fault N b  the refusal of a call on N and edges, b being whether all are present: the record's first fault, then 14 if one is not
+--   set_fault N c    that of a call on N and a set of edges c
+--   rows_fault N l   that of a call on N and rows l, each a set of edges
 --
 -- Records:
 --   assembled nodes source sink edges first second metres      a network from its fields
 --   rewired N edges first second metres      N with other edges
 --   bare n s t       the network of n nodes with source s, sink t and no edge
---   no_network        the all-zero record
---   with_edge N k a b m   N with the edge k from a to b, m metres long
+--   no_network       the all-zero record
+--   with_edge N k a b m  N with the edge k from a to b, m metres long
 --   Stored N         what the types of the code say of any record
 use Rattle.std.specs.Prelude.{Bool, cond, not, ◌||◌, ◌≡◌, ℕ, zero, suc, ◌<◌, ◌^◌, leb, ltb, eqb, length, get_or, set, replicate}
 use mathlib.Core.List.{List, [], ◌∷◌, map, foldr}

@@ -14,7 +14,7 @@ use borrow.Author.Tests.{ltb-false, lt-ltb, le-ltb}
 use lib.Dec.{T, ltb}
 use lib.ListN.{length, get_or}
 use Rattle.sequences.specs.Words.{onto}
-use Rattle.sequences.proofs.Places.{length-tabulate, get_d_tabulate}
+use Rattle.sequences.proofs.Places.{length-tabulate, get_or-tabulate}
 use Rattle.sequences.proofs.Words.{get_or-onto, drop-onto, length-onto}
 use Rattle.network.specs.declared.Network.{Network}
 use Rattle.network.specs.Record.{◌when◌, ◌then◌, fault_of, present, Stored}
@@ -101,7 +101,7 @@ module _ (N : Network) (log : List ℕ) where
   pub bytes-tell : Stored N → fault_of N ≡ 0 → (i : ℕ) → i < event_count log → Tells N (down_after log (suc i)) (get_or (silent_bytes N log) i 0)
   unfolding silent_bytes
   bytes-tell stored ok i h =
-      rw (get_d_tabulate (event_count log) _ i h) (byte-tells N (accepted-sound N stored ok).bounded (down_after log (suc i)))
+      rw (get_or-tabulate (event_count log) _ i h) (byte-tells N (accepted-sound N stored ok).bounded (down_after log (suc i)))
 
 -- ---- what the answer means
 

@@ -11,7 +11,7 @@ use native.Mathlib.Omega.{arith}
 use lib.ListN.{length, take, set}
 use lib.Seq.{take-length, length-take-le}
 use Rattle.sequences.specs.Words.{onto}
-use Rattle.sequences.proofs.Places.{get_d_tabulate}
+use Rattle.sequences.proofs.Places.{get_or-tabulate}
 use Rattle.sequences.proofs.Stores.{onto-next}
 use Rattle.sequences.proofs.Words.{length-onto}
 use Rattle.network.specs.declared.Network.{Network}
@@ -46,7 +46,7 @@ module _ (N : Network) (log lent : List ℕ) where
     unfolding down_after silent_bytes
     next-turn l {next} {severs'} e known =
         let on : next ≡ down_after log (suc i) = e ∙ ap (λ d. changed (command_at log i) d (edge_at log i)) t.down-now in
-        let byte = get_d_tabulate (event_count log) (silent_byte N log) i l in
+        let byte = get_or-tabulate (event_count log) (silent_byte N log) i l in
         let same : byte_of severs' ≡ silent_byte N log i = ap byte_of (known ∙ ap (severed N) on) in
         record {
           event = omega arith;

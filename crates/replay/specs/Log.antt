@@ -1,15 +1,15 @@
 -- A hall's link log: pairs of bytes, a command and the number of a cable. What is down after each event, and the log's faults.
 -- To believe.
 --
---   event_count log       how many whole events the log has
---   command_at log i      the command of event i, counted from 0
---   edge_at log i         its edge
+--   event_count log      how many whole events the log has
+--   command_at log i     the command of event i, counted from 0
+--   edge_at log i        its edge
 --   changed c d k        the edges down after the event of command c and edge k, where d were down before it
---   down_after log n      the edges down after the first n events
---   is_command c          whether c is 44 (hexadecimal), down, or 55, up
---   event_fault p c k     the fault of an event of command c and edge k, where the edges p are present
---   events_fault p log i n    the first fault of the n events from i on
---   log_fault p log       the log's first fault, 0 if it has none
+--   down_after log n     the edges down after the first n events
+--   is_command c         whether c is 44 (hexadecimal), down, or 55, up
+--   event_fault p c k    the fault of an event of command c and edge k, where the edges p are present
+--   events_fault p log i n   the first fault of the n events from i on
+--   log_fault p log      the log's first fault, 0 if it has none
 --   Command log i        event i has a command
 --   GoodEvents p log n   each of the first n events has a command, and an edge of p
 --   LogRules p log       the log has whole events alone, all of them good

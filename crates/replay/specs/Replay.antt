@@ -1,12 +1,12 @@
 -- The call that plays a link log back: what it answers and leaves in the lent bytes, and what that means.
 -- To believe.
 --
---   byte_of b                     1 for silent, 0 for not
---   silent_byte N log i           whether the room is silent after event i
---   silent_bytes N log            the same for each event of the log  [computed: bytes_count, bytes-tell (replay/proofs/Meaning)]
---   replay_refusal N log lent     the call's refusal for a network, a log and lent bytes, 0 if there is none
---   replayed_by N log lent        its answer
---   silent_after N log lent       the lent bytes afterwards
+--   byte_of b                    1 for silent, 0 for not
+--   silent_byte N log i          whether the room is silent after event i
+--   silent_bytes N log           the same for each event of the log  [computed: bytes_count, bytes-tell (replay/proofs/Meaning)]
+--   replay_refusal N log lent    the call's refusal for a network, a log and lent bytes, 0 if there is none
+--   replayed_by N log lent       its answer
+--   silent_after N log lent      the lent bytes afterwards
 --   Tells N d b                  the byte b tells whether the room is silent where the edges d are down
 --   ReplayMeans N log lent r n after     what it means that the call, lent `lent`, gave the refusal r and the count n and left `after`
 use Rattle.std.specs.Prelude.{Bool, true, false, List, ◌↔◌, ◌≡◌, ℕ, suc, ◌*◌, ◌≤◌, ◌<◌, ltb, length, get_or, drop}

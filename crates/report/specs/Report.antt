@@ -1,8 +1,8 @@
 -- What the list program prints (the paper's section "The list program").
 -- To believe.
 --
---   list_report N     of a network: its list, or the refusal 12 if it has more minimal cuts than rows are lent
---   report_of s       of the bytes s: the reader's refusal, or the report of the network read
+--   list_report N    of a network: its list, or the refusal 12 if it has more minimal cuts than rows are lent
+--   report_of s      of the bytes s: the reader's refusal, or the report of the network read
 --   Reported plan read b a r     for every input s whose first bytes, as many as the plan has room for, are the plan's first `read`:
 --                    the bytes b of a page have become a, the report of all of s in front, and r is its length
 use Rattle.std.specs.Prelude.{◌≡◌, true, false, List, ℕ, ltb, length, take}

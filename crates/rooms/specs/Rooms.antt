@@ -5,17 +5,17 @@
 --   fitting N s ts       whether the rooms ts, with those of the set s before them, are points of N, none twice, and none the server
 --                        [computed: packaged-iff (rooms/proofs/Packages)]
 --   packaged N ts        whether the rooms ts are a package  [computed: packaged-iff (rooms/proofs/Packages)]
---   package_fault N ts    the refusal of a call for the rooms ts: the record's first fault, then 19 if they are no package
+--   package_fault N ts   the refusal of a call for the rooms ts: the record's first fault, then 19 if they are no package
 --   added e l m          the list l with the next room's list m: joined or united, and every set dropped that holds another
 --                        [computed: sets-least (rooms/proofs/Sets)]
---   sets_from e N l ts    the list l with the lists of the rooms ts, one after the other  [computed: sets-least (rooms/proofs/Sets)]
---   sets_for e N ts       the least sets that silence the rooms ts, by the extent e, rising  [computed: sets-least (rooms/proofs/Sets)]
---   step_need e p q       the work rows that a step needs, with p sets after the rooms so far and q in the next room's list
---   room_need e N before t    those that the room t needs after the rooms `before`; the first needs as many as its list
+--   sets_from e N l ts   the list l with the lists of the rooms ts, one after the other  [computed: sets-least (rooms/proofs/Sets)]
+--   sets_for e N ts      the least sets that silence the rooms ts, by the extent e, rising  [computed: sets-least (rooms/proofs/Sets)]
+--   step_need e p q      the work rows that a step needs, with p sets after the rooms so far and q in the next room's list
+--   room_need e N before t   those that the room t needs after the rooms `before`; the first needs as many as its list
 --   needs_from e N before ts  those that each of the rooms ts needs, after the rooms `before`
 --   needs e N ts         those that each step needs, for the rooms ts in rising order
---   rooms_refusal e N ts cuts work    the call's refusal for a network, rooms and lent rows, 0 if there is none
---   rooms_listed_by e N ts cuts work   its answer
+--   rooms_refusal e N ts cuts work   the call's refusal for a network, rooms and lent rows, 0 if there is none
+--   rooms_listed_by e N ts cuts work  its answer
 --   rooms_rows_after e N ts cuts work  the lent rows for cuts afterwards
 --   work_after N ts work  the lent work rows afterwards: all 0, but untouched where record or rooms are refused
 --   RoomsListing e N ts cuts work r n cuts' work'    the call, lent `cuts` and `work`, gives the refusal r and the count n and leaves cuts'

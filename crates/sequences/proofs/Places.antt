@@ -39,10 +39,10 @@ mem-place l c = (place l, λ p. Memᴰ.cast (sym p.2) (mem-at l p.0 0 p.1))
         ]
 
 -- What stands at a place of the list of values is the value of what stands there.
-pub get_d_map : (f : ℕ → ℕ) (l : List ℕ) (i : ℕ) → i < length l → get_or (map f l) i 0 ≡ f (get_or l i 0)
-get_d_map f [] i h = absurd (not-suc-le-zero h)
-get_d_map f (x ∷ l) zero h = refl
-get_d_map f (x ∷ l) (suc i) h = get_d_map f l i (le_of_suc-le-suc h)
+pub get_or-map : (f : ℕ → ℕ) (l : List ℕ) (i : ℕ) → i < length l → get_or (map f l) i 0 ≡ f (get_or l i 0)
+get_or-map f [] i h = absurd (not-suc-le-zero h)
+get_or-map f (x ∷ l) zero h = refl
+get_or-map f (x ∷ l) (suc i) h = get_or-map f l i (le_of_suc-le-suc h)
 
 -- A table of n entries has n.
 pub length-tabulate : (n : ℕ) (f : ℕ → ℕ) → length (tabulate n f) ≡ n
@@ -51,11 +51,11 @@ length-tabulate zero f = refl
 length-tabulate (suc n) f = ap suc (length-tabulate n (λ k. f (suc k)))
 
 -- The entry at k is what the function says of k.
-pub get_d_tabulate : (n : ℕ) (f : ℕ → ℕ) (k : ℕ) → k < n → get_or (tabulate n f) k 0 ≡ f k
+pub get_or-tabulate : (n : ℕ) (f : ℕ → ℕ) (k : ℕ) → k < n → get_or (tabulate n f) k 0 ≡ f k
 unfolding tabulate
-get_d_tabulate zero f k h = absurd (not-suc-le-zero h)
-get_d_tabulate (suc n) f zero h = refl
-get_d_tabulate (suc n) f (suc k) h = get_d_tabulate n (λ j. f (suc j)) k (le_of_suc-le-suc h)
+get_or-tabulate zero f k h = absurd (not-suc-le-zero h)
+get_or-tabulate (suc n) f zero h = refl
+get_or-tabulate (suc n) f (suc k) h = get_or-tabulate n (λ j. f (suc j)) k (le_of_suc-le-suc h)
 
 -- A permutation is as long.
 pub perm-length : {k l : List ℕ} → Permᴰ k l → length k ≡ length l

@@ -17,7 +17,7 @@ use lib.Dec.{ltb}
 use lib.ListN.{length, get_or}
 use Rattle.sequences.specs.Rising.{Rising, RisingRows, placed, arranged}
 use Rattle.sequences.specs.Words.{tabulate, onto}
-use Rattle.sequences.proofs.Places.{mem-at, at_mem, mem-place, length-tabulate, get_d_tabulate}
+use Rattle.sequences.proofs.Places.{mem-at, at_mem, mem-place, length-tabulate, get_or-tabulate}
 use Rattle.sequences.proofs.Words.{get_or-onto}
 
 -- Of two rising lists with the same members, the first numbers are equal.
@@ -67,7 +67,7 @@ places-pairwise R prop (x ∷ l) r =
 table-rises : (n : ℕ) (f : ℕ → ℕ) → ((i j : ℕ) → i < j → j < n → f i < f j) → Rising (tabulate n f)
 table-rises n f rises = places-pairwise ◌<◌ (λ x y. le_prop) (tabulate n f) (λ i j h k.
     let l : j < n = rw (length-tabulate n f) at k in
-    rw (get_d_tabulate n f i (lt_trans h l), get_d_tabulate n f j l) (rises i j h l))
+    rw (get_or-tabulate n f i (lt_trans h l), get_or-tabulate n f j l) (rises i j h l))
 
 mem-table : (n : ℕ) (f : ℕ → ℕ) (c : ℕ) → Memᴰ c (tabulate n f) ↔ ((i : ℕ) × (i < n) × (f i ≡ c))
 mem-table n f c =
@@ -75,8 +75,8 @@ mem-table n f c =
       λ m.
           let (i, h, e) = place.0 m in
           let l : i < n = rw (length-tabulate n f) at h in
-          (i, l, sym (get_d_tabulate n f i l) ∙ e),
-      λ (i, h, e). place.1 (i, rw (length-tabulate n f) h, get_d_tabulate n f i h ∙ e),
+          (i, l, sym (get_or-tabulate n f i l) ∙ e),
+      λ (i, h, e). place.1 (i, rw (length-tabulate n f) h, get_or-tabulate n f i h ∙ e),
     )
 
 -- Rising rows, n of f and m of g, in which the same numbers stand, are equally many and equal.
@@ -88,7 +88,7 @@ rows-unique f g n m rises rises' same =
     let e : tabulate n f ≡ tabulate m g = rising-unique (tabulate n f) (tabulate m g) (table-rises n f rises) (table-rises m g rises')
     (λ c. Iff.trans (mem-table n f c) (Iff.trans (same c) (Iff.symm (mem-table m g c)))) in
     let counts : n ≡ m = sym (length-tabulate n f) ∙ ap length e ∙ length-tabulate m g in
-    (counts, λ i h. sym (get_d_tabulate n f i h) ∙ ap (λ (l : List ℕ). get_or l i 0) e ∙ get_d_tabulate m g i (rw counts at h))
+    (counts, λ i h. sym (get_or-tabulate n f i h) ∙ ap (λ (l : List ℕ). get_or l i 0) e ∙ get_or-tabulate m g i (rw counts at h))
 
 -- A rising list of the numbers that have P, as rows.
 pub rising-rows : (P : ℕ → Type 0) (l : List ℕ) → Rising l → ((x : ℕ) → Memᴰ x l ↔ P x) → RisingRows P (length l) l

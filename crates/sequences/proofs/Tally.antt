@@ -13,7 +13,7 @@ use lib.Seq.{ext_get_or, get_or-set_same, get_or-set_other}
 use Rattle.sequences.specs.Counts.{sum, bit, count_if, tally}
 use Rattle.sequences.specs.Words.{tabulate}
 use Rattle.sequences.proofs.Counts.{count-nil, count-cons, count-append, count-le}
-use Rattle.sequences.proofs.Places.{length-tabulate, get_d_tabulate}
+use Rattle.sequences.proofs.Places.{length-tabulate, get_or-tabulate}
 
 -- ---- the counts
 
@@ -25,7 +25,7 @@ length-tally n l = length-tabulate n (λ w. count_if (eqb w) l)
 -- The count at w is how often w stands in the list.
 pub tally-at : (n : ℕ) (l : List ℕ) (w : ℕ) → w < n → get_or (tally n l) w 0 ≡ count_if (eqb w) l
 unfolding tally
-tally-at n l w h = get_d_tabulate n (λ v. count_if (eqb v) l) w h
+tally-at n l w h = get_or-tabulate n (λ v. count_if (eqb v) l) w h
 
 -- No count is above the length.
 pub tally-le : (n : ℕ) (l : List ℕ) (w : ℕ) → get_or (tally n l) w 0 ≤ length l

@@ -3,9 +3,9 @@
 -- To believe.
 --
 --   sum l                the sum of the numbers of l
---   sum_below n f         f 0 + f 1 + .. + f (n - 1)  [working]
+--   sum_below n f        f 0 + f 1 + .. + f (n - 1)  [working]
 --   bit b                1 if b holds, else 0  [working]
---   count_if p l          how many members of l pass the test p
+--   count_if p l         how many members of l pass the test p
 --   Permutation l m      each test is passed by as many members of l as of m; so each member stands in both equally often  [working]
 --   Exactly w P n        P holds of exactly n of the numbers below w
 --   tally n l            for each number below n, how often it stands in l

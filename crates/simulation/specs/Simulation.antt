@@ -1,10 +1,10 @@
 -- The call that drills a hall with drawn failures: what it answers, and what that means.
 -- To believe.
 --
---   silent_step N n f r i         whether the edges down after step i, counted from 0, sever  [computed: silent-step (simulation/proofs/Meaning)]
---   silent_steps N n f r steps    how many of the steps do  [computed: steps-right (simulation/proofs/Meaning)]
---   simulation_refusal N steps    the call's refusal for a network and so many steps, 0 if there is none
---   simulated_by N n f r steps    its answer for the start number n, the failure setting f and the repair setting r
+--   silent_step N n f r i        whether the edges down after step i, counted from 0, sever  [computed: silent-step (simulation/proofs/Meaning)]
+--   silent_steps N n f r steps   how many of the steps do  [computed: steps-right (simulation/proofs/Meaning)]
+--   simulation_refusal N steps   the call's refusal for a network and so many steps, 0 if there is none
+--   simulated_by N n f r steps   its answer for the start number n, the failure setting f and the repair setting r
 --   StepsWhere N n f r steps P k     P holds of the edges down after exactly k of the steps
 --   SimulationMeans N n f r steps e k m    what it means that the call gave the refusal e, the steps k and the number m
 use Rattle.std.specs.Prelude.{Bool, ◌↔◌, ◌≡◌, ℕ, suc, ◌+◌, ◌*◌, ◌≤◌, ◌<◌, ltb}

@@ -4,9 +4,9 @@
 --   after_draw f r d k x  the edges down after the edge k has drawn x, where d were down before, at failure setting f and repair setting r
 --   turn f r s k         the state after the draw of the edge k, where s was the state before
 --   step f r l s         the state after each edge of l, one after the other, has taken a draw
---   state_after p n f r i     the state after i steps from the start number n on, where the edges p are present
+--   state_after p n f r i    the state after i steps from the start number n on, where the edges p are present
 --   down_after p n f r i  the edges then down
---   after_draws d a b     the edges down after a step, where d were down before, the draws of a were below the failure setting, and those
+--   after_draws d a b    the edges down after a step, where d were down before, the draws of a were below the failure setting, and those
 --                        of b below the repair setting  [working]
 use Rattle.std.specs.Prelude.{true, false, List, [], ◌∷◌, ℕ, zero, suc, ◌^◌, ltb}
 use Rattle.std.specs.Int.Bits.{bit_or}

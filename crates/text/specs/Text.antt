@@ -6,17 +6,17 @@
 --   decimal n        the decimal digits of n, without leading zeros
 --   spaced l         each number of l in decimal, after a space
 --   numbers l        the numbers of l in decimal with single spaces between them; a hyphen if there are none
---   line_up_to most c s     the line of the cut c and its near side s, where so many points are the most: cables, space, bar, space, points
---   line_of c s       the same with the most that there may be
+--   line_up_to most c s   the line of the cut c and its near side s, where so many points are the most: cables, space, bar, space, points
+--   line_of c s      the same with the most that there may be
 --   word_line word n  the line of a word, a space and the number n
---   count_line n      the line that says how many cuts there are: the word cuts and n
---   refusal_line n    the line that says why there is no list: the word refused and n
---   row_lines cuts sides     the lines of the rows, each cut beside its side, as far as there are both
---   list_text cuts sides     a whole list: the line of the count, then the lines of the rows
---   max_numbers w     how long the numbers below w can be, for 10 ≤ w ≤ 100  [working]
---   max_line          how long a row's line can be  [working]
---   max_rows          how many rows are printed
---   max_text          how long the text of so many rows can be  [working]
+--   count_line n     the line that says how many cuts there are: the word cuts and n
+--   refusal_line n   the line that says why there is no list: the word refused and n
+--   row_lines cuts sides    the lines of the rows, each cut beside its side, as far as there are both
+--   list_text cuts sides    a whole list: the line of the count, then the lines of the rows
+--   max_numbers w    how long the numbers below w can be, for 10 ≤ w ≤ 100  [working]
+--   max_line         how long a row's line can be  [working]
+--   max_rows         how many rows are printed
+--   max_text         how long the text of so many rows can be  [working]
 use Rattle.std.specs.Prelude.{true, false, List, [], ◌∷◌, ◌++◌, ℕ, zero, suc, ◌+◌, ◌-◌, ◌*◌, ◌/◌, ◌%◌, ltb, length}
 use Prim.Native.Char.{code}
 use Rattle.bitset.specs.Members.{members}

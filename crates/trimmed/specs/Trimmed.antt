@@ -1,7 +1,7 @@
 -- The refusal of a network that was to be trimmed already.
 -- To believe.
 --
---   trimmed_fault N   the record's first fault, then 26 unless every node and every present edge is relevant, 0 if there is none
+--   trimmed_fault N  the record's first fault, then 26 unless every node and every present edge is relevant, 0 if there is none
 use Rattle.std.specs.Prelude.{not, ℕ}
 use Rattle.network.specs.declared.Network.{Network}
 use Rattle.network.specs.Record.{◌when◌, ◌then◌, fault_of}

@@ -1,11 +1,11 @@
 -- A row's width is the number of different pairs of nodes that its edges join; the table counts the rows of each width.
 -- To believe.
 --
---   pairs_of N c          the different pairs of nodes that the members of c join, each once
+--   pairs_of N c         the different pairs of nodes that the members of c join, each once
 --                        [computed: in_pairs, pairs-distinct (widths/proofs/Pairs)]
---   width_of N c          how many these are: the width of a row c
---   width_table N cuts    for each width from 0 to 64, how many of the rows `cuts` have it
---   widths_of N cuts      the call's answer: the refusal beside the table, all 0 on refusal
+--   width_of N c         how many these are: the width of a row c
+--   width_table N cuts   for each width from 0 to 64, how many of the rows `cuts` have it
+--   widths_of N cuts     the call's answer: the refusal beside the table, all 0 on refusal
 --   WidthsMean N cuts r table    what the refusal r and the table mean for the rows `cuts`
 use Rattle.std.specs.Prelude.{List, map, ◌↔◌, ◌≡◌, ℕ, ◌<◌, eqb, length, get_or, replicate}
 use Rattle.sequences.specs.Counts.{sum, count_if, tally}

@@ -1,10 +1,10 @@
 -- The times at which windows start or end, by which the code goes from one stretch of minutes to the next.
 -- Working.
 --
---   times_of w        the starts and ends of works windows; those of opening windows are all their numbers
+--   times_of w       the starts and ends of works windows; those of opening windows are all their numbers
 --   sooner m t n     the time t if it is past m and before n, else n
 --   soonest m n l    the first of n and the times of l that are past m
---   changes_of o w    the week's end, and every start and end
+--   changes_of o w   the week's end, and every start and end
 use Rattle.std.specs.Prelude.{cond, ◌&&◌, List, [], ◌∷◌, ◌++◌, ℕ, ltb}
 use Rattle.windows.specs.Windows.{week}
 

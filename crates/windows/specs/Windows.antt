@@ -4,14 +4,14 @@
 --
 --   week             the minutes of a week: they are 0 to 10,079
 --   covers s e m     whether the minute m lies in the window from s to e, which holds its start and not its end
---   is_open o m       whether some opening window of o holds the minute m
---   out_at w m        the edges of the works windows of w that hold it: those out then
---   opening_count o   how many opening windows there are, a piece of one counted
---   works_count w     how many works windows
+--   is_open o m      whether some opening window of o holds the minute m
+--   out_at w m       the edges of the works windows of w that hold it: those out then
+--   opening_count o  how many opening windows there are, a piece of one counted
+--   works_count w    how many works windows
 --   window_fault s e  the fault of a window from s to e
---   booking_fault p s e k     that of a works window with the edge k, where the edges p are present
+--   booking_fault p s e k    that of a works window with the edge k, where the edges p are present
 --   openings_fault o  the first fault of opening windows, 0 if they have none
---   works_fault p w   that of works windows, where the edges p are present
+--   works_fault p w  that of works windows, where the edges p are present
 --   Window s e       the start s is below the end e, and the end not above the week's
 --   Openings o       o has whole windows alone, each a `Window`
 --   Works p w        w has whole windows alone, each a `Window` with an edge of p
