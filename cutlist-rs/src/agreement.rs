@@ -15,7 +15,7 @@ use crate::sys;
 
 const HEADER: &str = include_str!("../../include/cutlist.h");
 const REFUSALS: &str = include_str!("../../crates/network/src/refusal.rt");
-const JUDGING: &str = include_str!("../../crates/connectivity/src/judging.rt");
+const VERDICTS: &str = include_str!("../../crates/connectivity/src/judging.rt");
 const REPLAY: &str = include_str!("../../crates/replay/src/lib.rt");
 const MAINTENANCE: &str = include_str!("../../crates/maintenance/src/lib.rt");
 const WINDOWS: &str = include_str!("../../crates/windows/src/lib.rt");
@@ -72,36 +72,15 @@ fn number<N: FromStr>(digits: &str) -> N {
     digits.parse().unwrap_or_else(|_| panic!("{digits:?}"))
 }
 
-/// The constants of refusal.rt, which holds nothing else: `pub const NAME: u8 = N; // words`.
-fn refusals_of_the_library() -> Named {
-    let constant = |line: &&str| !line.is_empty() && !line.starts_with("//");
-    table(REFUSALS.lines().filter(constant).map(|line| {
-        let (constant, words) = parted(line, "// ");
-        let (name, value) = parted(between(constant, "pub const ", ";"), ": u8 = ");
-        (number(value), (name.to_string(), words.to_string()))
+/// An enum of the library: `Name = N, // words`, with lines of comment between.
+fn enum_of_the_library(text: &str, name: &str) -> Named {
+    let inside = between(text, &format!("pub enum {name} {{"), "\n}");
+    let variant = |line: &&str| !line.is_empty() && !line.trim_start().starts_with("//");
+    table(inside.lines().filter(variant).map(|line| {
+        let (variant, words) = parted(line, ", // ");
+        let (name, value) = parted(variant.trim_start(), " = ");
+        (number(value), (spelled(name), words.to_string()))
     }))
-}
-
-/// The verdicts of judging.rt: their names by `verdict_number`, `Verdict::Name => N,`, and their
-/// words by the comment above it, "1 not a cut, 2 ..; 0 for no verdict".
-fn verdicts_of_the_library() -> Named {
-    let (above, code) = parted(JUDGING, "\npub fn verdict_number(");
-    let comment = above.lines().next_back().expect("a comment");
-    let verdicts = between(comment, ": ", "; 0 for no verdict").split(", ");
-    let words = table(verdicts.map(|verdict| {
-        let (value, words) = parted(verdict, " ");
-        (number(value), words.to_string())
-    }));
-
-    let arms = between(code, "match verdict {", "\n    }").lines();
-    let mut names = table(arms.filter(|arm| !arm.is_empty()).map(|arm| {
-        let (name, value) = parted(between(arm, "Verdict::", ","), " => ");
-        (number(value), spelled(name))
-    }));
-    assert!(names.remove(&0).is_some(), "no number 0");
-    assert!(names.keys().eq(words.keys()), "{names:?}, {words:?}");
-    let verdicts = names.into_iter().zip(words.into_values());
-    table(verdicts.map(|((number, name), words)| (number, (name, words))))
 }
 
 /// An enum of the header without its 0: `CUTLIST_NAME = N, /* words */`, the last without comma.
@@ -164,7 +143,7 @@ fn arrays_of_the_library(element: &str) -> BTreeSet<usize> {
 
 #[test]
 fn refusals_agree() {
-    let library = refusals_of_the_library();
+    let library = enum_of_the_library(REFUSALS, "Refusal");
     let header = enum_of_the_header("cutlist_refusal");
     let this = table(Refusal::ALL.iter().map(|r| (r.number(), named(r))));
     assert_eq!(header, library, "header and library");
@@ -191,7 +170,7 @@ fn lists_of_refusals_agree() {
 
 #[test]
 fn verdicts_agree() {
-    let library = verdicts_of_the_library();
+    let library = enum_of_the_library(VERDICTS, "Verdict");
     let header = enum_of_the_header("cutlist_verdict");
     let verdict = |k| Some((k, named(Verdict::from_number(k).ok()?)));
     let this = table((0..=u8::MAX).filter_map(verdict));

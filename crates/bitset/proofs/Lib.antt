@@ -7,4 +7,5 @@ pub mod Sets
 pub mod MemberList
 pub mod Results
 pub mod Scans
+pub mod Going
 pub mod Families

@@ -1,3 +1,3 @@
--- The definitions that the contracts of `enumeration` and `filling` cite.
+-- The definitions that the contracts of this crate, of `enumeration` and of `filling` cite.
 pub mod Enumeration
 pub mod Lists

@@ -3,7 +3,7 @@
 use mathlib.Core.Path.{◌≡◌}
 use mathlib.Core.List.{List}
 use Rattle.network.specs.declared.Network.{Network}
-use Rattle.listing.specs.declared.Listed.{Listed}
+use Rattle.listing.specs.List.{Listed}
 use Rattle.rooms.specs.declared.Extent.{Extent}
 use Rattle.rooms.specs.Rooms.{RoomsListing, RoomsMean}
 use Rattle.rooms.proofs.Calls.{RoomsAnswered}

@@ -14,7 +14,7 @@
 --   Total N c r m        adding up the metres of the set c in N gives the refusal r and the total m
 --   Tabled N cuts r table    counting the rows `cuts` by width in N gives the refusal r and the table
 --
--- Of the two calls that list these are `Listing` (listing, List) and `TrimmedListing` (listing, Trimmed).
+-- Of the calls that list these are `Listing` (listing, List), `TrimmedListing` (listing, Trimmed) and `RoomsListing` (rooms, Rooms).
 use Rattle.std.specs.Prelude.{List, ◌↔◌, ◌≡◌, ℕ}
 use Rattle.network.specs.declared.Network.{Network}
 use Rattle.network.specs.Record.{Stored}

@@ -5,6 +5,7 @@
 #![tactic(auto)]
 
 ghost use Rattle.std.specs.Prelude.{◌≡◌};
+ghost use Rattle.network.specs.Refusals.{refusal_of, answer_of};
 ghost use Rattle.network.specs.Record.{assembled, fault_of};
 ghost use Rattle.network.specs.Rules.{FaultMeans};
 ghost use Rattle.widths.specs.Widths.{WidthsMean};
@@ -20,9 +21,32 @@ ghost use Rattle.maintenance.specs.Outage.{OutageMeans};
 ghost use Rattle.simulation.specs.Simulation.{SimulationMeans};
 ghost use Rattle.capi.specs.Fields.{Read, Written, Found, Judged, JudgedMeans, Played, Counted, Drilled, Total, Tabled};
 
+use connectivity::RelevantPart;
 use edge_set::EdgeSet;
-use network::Network;
-use node_set::NodeWord;
+use network::{Network, Refusal};
+use node_set::{NodeSet, NodeWord};
+use simulation::Simulated;
+
+// What is handed over where a plan is refused.
+const NO_NETWORK: Network = Network {
+    nodes: 0,
+    source: 0,
+    sink: 0,
+    present: EdgeSet(0),
+    first: [0; 64],
+    second: [0; 64],
+    metres: [0; 64],
+};
+
+// An answer in numbers: that of the refusal, 0 if there is none, beside what the answer gives, or what stands for it where it is refused.
+fn told<T: Copy>(answer: Result<T, Refusal>, refused: T) -> (u8, T)
+    ensures { (result.0 ≡ refusal_of answer) × (result.1 ≡ answer_of refused answer) }
+{
+    match answer {
+        Ok(given) => (0, given),
+        Err(refusal) => (u8::from(refusal), refused),
+    }
+}
 
 // Reads a plan. Gives the refusal's number, 0 if there is none, and fills in the record, all zero on refusal.
 #[unsafe(no_mangle)]
@@ -41,8 +65,7 @@ pub extern "C" fn cutlist_decode(
     ensures means { ReadMeans plan.now result
         (assembled nodes.new source.new sink.new present.new first.new second.new metres.new) }
 {
-    let decoded = reader::decode(plan);
-    let read = decoded.network;
+    let (refusal, read) = told(reader::decode(plan), NO_NETWORK);
     let edges = read.present;
     let firsts = read.first;
     let seconds = read.second;
@@ -54,7 +77,7 @@ pub extern "C" fn cutlist_decode(
     *first = firsts;
     *second = seconds;
     *metres = lengths;
-    decoded.refusal
+    refusal
 }
 
 // The record of the fields that a caller lends.
@@ -98,7 +121,8 @@ pub extern "C" fn cutlist_fault(
     ensures means { FaultMeans (assembled nodes source sink present first.now second.now metres.now) result }
 {
     let to_test = assemble(nodes, source, sink, present, first, second, metres);
-    network::fault(to_test)
+    let (refusal, _) = told(network::fault(to_test), ());
+    refusal
 }
 
 // Writes a record into a lent buffer. Gives the refusal's number, 0 if there is none, and the count of bytes written, 0 on refusal.
@@ -118,9 +142,9 @@ pub extern "C" fn cutlist_encode(
     ensures means { WrittenMeans (assembled nodes source sink present first.now second.now metres.now) result count.new plan.new }
 {
     let to_write = assemble(nodes, source, sink, present, first, second, metres);
-    let encoded = writer::encode(to_write, plan);
-    *count = encoded.count;
-    encoded.refusal
+    let (refusal, written) = told(writer::encode(to_write, plan), 0);
+    *count = written;
+    refusal
 }
 
 // Finds the relevant nodes and edges. Gives the refusal's number, 0 if there is none, and fills in both sets, empty on refusal.
@@ -140,12 +164,16 @@ pub extern "C" fn cutlist_relevant(
     ensures means { PartMeans (assembled nodes source sink present first.now second.now metres.now) result node_set.new edge_set.new }
 {
     let to_trim = assemble(nodes, source, sink, present, first, second, metres);
-    let part = connectivity::relevant(to_trim);
+    let nothing = RelevantPart {
+        nodes: NodeSet(0),
+        edges: EdgeSet(0),
+    };
+    let (refusal, part) = told(connectivity::relevant(to_trim), nothing);
     let relevant_nodes = part.nodes;
     let relevant_edges = part.edges;
     *node_set = relevant_nodes.0;
     *edge_set = relevant_edges.0;
-    part.refusal
+    refusal
 }
 
 // Judges a set of edges. Gives the refusal's number, 0 if there is none, and fills in the verdict:
@@ -166,9 +194,16 @@ pub extern "C" fn cutlist_classify(
     ensures means { JudgedMeans (assembled nodes source sink present first.now second.now metres.now) set result verdict.new }
 {
     let to_judge = assemble(nodes, source, sink, present, first, second, metres);
-    let judged = connectivity::classify(to_judge, EdgeSet(set));
-    *verdict = connectivity::verdict_number(judged);
-    connectivity::refusal_number(judged)
+    match connectivity::classify(to_judge, EdgeSet(set)) {
+        Ok(judged) => {
+            *verdict = u8::from(judged);
+            0
+        }
+        Err(refusal) => {
+            *verdict = 0;
+            u8::from(refusal)
+        }
+    }
 }
 
 // Gives the total metres of a set of edges, to which one that is not measured adds 0. Gives the refusal's number, 0 if there is none, and
@@ -189,9 +224,9 @@ pub extern "C" fn cutlist_metres(
     ensures means { TotalMeans (assembled nodes source sink present first.now second.now metres.now) set result total.new }
 {
     let to_measure = assemble(nodes, source, sink, present, first, second, metres);
-    let measured = lengths::total(to_measure, EdgeSet(set));
-    *total = measured.metres;
-    measured.refusal
+    let (refusal, measured) = told(lengths::total(to_measure, EdgeSet(set)), 0);
+    *total = measured;
+    refusal
 }
 
 // Lists the minimal cuts, rising, each beside its near side. Gives the refusal's number, 0 if there is none, and the count of rows listed,
@@ -215,9 +250,9 @@ pub extern "C" fn cutlist_list(
         result count.new cuts.new sides.new }
 {
     let to_list = assemble(nodes, source, sink, present, first, second, metres);
-    let listed = listing::list(to_list, cuts, sides);
-    *count = listed.count;
-    listed.refusal
+    let (refusal, listed) = told(listing::list(to_list, cuts, sides), 0);
+    *count = listed;
+    refusal
 }
 
 // Lists the minimal cuts of a plan that was trimmed already, as `cutlist_list` does, with a test in place of the trimming. Gives the refusal's
@@ -241,9 +276,9 @@ pub extern "C" fn cutlist_list_trimmed(
         result count.new cuts.new sides.new }
 {
     let offered = assemble(nodes, source, sink, present, first, second, metres);
-    let answered = listing::list_trimmed(offered, cuts, sides);
-    *count = answered.count;
-    answered.refusal
+    let (not_listed, trimmed) = told(listing::list_trimmed(offered, cuts, sides), 0);
+    *count = trimmed;
+    not_listed
 }
 
 // Lists the minimal sets of edges that silence at least one of the rooms, rising. Gives the refusal's number, 0 if there is none, and the
@@ -269,9 +304,9 @@ pub extern "C" fn cutlist_list_any(
         result count.new cuts.new }
 {
     let with_any = assemble(nodes, source, sink, present, first, second, metres);
-    let silenced_any = rooms::list_any(with_any, rooms, cuts, work);
-    *count = silenced_any.count;
-    silenced_any.refusal
+    let (refusal, listed) = told(rooms::list_any(with_any, rooms, cuts, work), 0);
+    *count = listed;
+    refusal
 }
 
 // Lists the minimal sets of edges that silence every one of the rooms, as `cutlist_list_any` those that silence at least one.
@@ -295,9 +330,9 @@ pub extern "C" fn cutlist_list_all(
         result count.new cuts.new }
 {
     let with_all = assemble(nodes, source, sink, present, first, second, metres);
-    let silenced_all = rooms::list_all(with_all, rooms, cuts, work);
-    *count = silenced_all.count;
-    silenced_all.refusal
+    let (refusal, listed) = told(rooms::list_all(with_all, rooms, cuts, work), 0);
+    *count = listed;
+    refusal
 }
 
 // Plays a link log back. Gives the refusal's number, 0 if there is none, and the count of bytes written, 0 on refusal.
@@ -320,9 +355,9 @@ pub extern "C" fn cutlist_replay(
         result count.new silent.new }
 {
     let cabled = assemble(nodes, source, sink, present, first, second, metres);
-    let replayed = replay::replay(cabled, log, silent);
-    *count = replayed.count;
-    replayed.refusal
+    let (refusal, replayed) = told(replay::replay(cabled, log, silent), 0);
+    *count = replayed;
+    refusal
 }
 
 // Counts the minutes of a week in which the room is open and the edges then out hold a minimal cut. Gives the refusal's number, 0 if there
@@ -345,8 +380,9 @@ pub extern "C" fn cutlist_silent_minutes(
 {
     let scheduled = assemble(nodes, source, sink, present, first, second, metres);
     let outage = maintenance::silent_minutes(scheduled, openings, works);
-    *minutes = outage.minutes;
-    outage.refusal
+    let (refusal, counted) = told(outage, 0);
+    *minutes = counted;
+    refusal
 }
 
 // Drills a hall from a start number on: in each step each cable present takes one draw, by which it fails or is repaired. Gives the refusal's
@@ -371,10 +407,15 @@ pub extern "C" fn cutlist_simulate(
     ensures means { SimulationMeans (assembled nodes source sink present first.now second.now metres.now) start failure repair steps result silent.new number.new }
 {
     let drilled = assemble(nodes, source, sink, present, first, second, metres);
+    let nothing = Simulated {
+        silent: 0,
+        number: 0,
+    };
     let simulated = simulation::simulate(drilled, start, failure, repair, steps);
-    *silent = simulated.silent;
-    *number = simulated.number;
-    simulated.refusal
+    let (refusal, counted) = told(simulated, nothing);
+    *silent = counted.silent;
+    *number = counted.number;
+    refusal
 }
 
 // Counts the rows of a list by width, the number of different pairs of points that a row's cables join. Gives the refusal's number, 0 if
@@ -395,8 +436,15 @@ pub extern "C" fn cutlist_widths(
     ensures means { WidthsMean (assembled nodes source sink present first.now second.now metres.now) cuts.now result table.new }
 {
     let to_count = assemble(nodes, source, sink, present, first, second, metres);
-    let counted = widths::width_table(to_count, cuts);
-    let counts = counted.counts;
-    *table = counts;
-    counted.refusal
+    // No table is handed on but the one: a caller has less than 3 KiB to lend.
+    match widths::width_table(to_count, cuts) {
+        Ok(counts) => {
+            *table = counts;
+            0
+        }
+        Err(refusal) => {
+            *table = [0; 65];
+            u8::from(refusal)
+        }
+    }
 }

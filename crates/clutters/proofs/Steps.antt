@@ -2,65 +2,52 @@
 -- after the other.
 -- Assumes nothing.
 --
---   Searched l h i       before place i: no place of l so far has a set that lies inside h
 --   Sifting from rows₀ rows kept i     before row i: of the rows from `from` on those that are kept stand in front, the others are as they were
---   Writing s p m rows₀ at rows n j    before row j: the unions of s with the rows from p on stand behind the first rows, `at` in number
---   Uniting p m rows₀ rows end i       before row i: the unions of the rows before it with those from p to m stand behind the first m
+--   Uniting l m rows₀ rows end i       before set i of l: the unions of those before it with the sets of m stand in front, `end` in number
 use mathlib.Core.Path.{◌≡◌, refl, sym, ap, ◌∙◌}
 use mathlib.Core.List.Memᴰ
-use mathlib.Core.List.{List, [], ◌∷◌, ◌++◌, map, map-append, append_assoc, append-nil, Pairwise, Pairwise-singleton, Pairwise-append, Memᴰ}
+use mathlib.Core.List.{List, [], ◌∷◌, ◌++◌, map, map-append, append-nil, Pairwise, Pairwise-singleton, Pairwise-append, Memᴰ}
 use mathlib.Core.Logic.Iff
 use mathlib.Core.Logic.{inl, inr, ◌↔◌, ∥∥₁_elim}
 use Prim.Native.Nat.{ℕ, suc, ◌+◌, ◌*◌, ◌-◌, ◌≤◌, ◌<◌, zero-le}
 use native.Mathlib.Bridge.{le_prop}
-use native.Mathlib.Nat.{sub_self, sub-zero, suc-mul, mul-le-mul_right, eq-or-lt_of_le, le_of_suc-le-suc}
+use native.Mathlib.Nat.{sub_self, suc-mul, mul-le-mul_right}
 use native.Mathlib.Numerals.{add-one}
 use native.Mathlib.Omega.{arith}
 use lib.Arith.{lt_of_le-ne}
-use lib.Bits.{bit_and, bit_or}
+use lib.Bits.{bit_or}
 use borrow.Rule.Slice.PartMut.{mid_of, put_mid, same_len_mid}
-use lib.ListN.{length, get_or, set, take, drop, drop_of_length-le, length-append, length-map, length-drop, length-set}
-use lib.Seq.{take-suc, take-append-le, drop_at, take-take, take-add, take_all, drop-drop, take-suc-set, drop-set-lt, length-take-le, get_or-take, get_or-drop, split_at}
+use lib.ListN.{length, get_or, set, take, drop, length-take, drop_of_length-le, length-append, length-map, length-drop, length-set}
+use lib.Seq.{take_at, take-suc, drop_at, take-take, take-add, take_all, drop-drop, take-suc-set, drop-set-lt, length-take-le, get_or-drop, split_at}
 use Rattle.sequences.specs.Rising.{Rising}
 use Rattle.sequences.proofs.Counts.{permutation-mem}
 use Rattle.sequences.proofs.Places.{at_mem, mem-at}
 use Rattle.bitset.specs.Families.{Least}
 use Rattle.bitset.specs.Members.{◌⊆◌}
-use Rattle.bitset.proofs.Subsets.{⊆-refl, ⊆-trans, ⊆-antisym, subset-le, subset-and}
+use Rattle.bitset.proofs.Subsets.{⊆-refl, ⊆-trans, ⊆-antisym, subset-le}
 use Rattle.sorting.specs.Sorted.{Ascending}
 use Rattle.ordering.specs.Ascended.{Ascended}
-use Rattle.clutters.specs.Clutters.{HoldsOne, tidy, unions}
-use Rattle.clutters.specs.Steps.{PartAt, between, Followed, UnitedWith, United, Tidied}
-use Rattle.clutters.proofs.Clutters.{holds-up, holds-member, holds-within, holds-single, holds-append, holds-with, holds-unions, least-member, in-tidy, tidy-rising, tidy-unique, tidy-same, tidy-holds}
+use Rattle.clutters.specs.Clutters.{HoldsOne, inside, tidy, unions}
+use Rattle.std.specs.List.{position, position_or_len}
+use Rattle.std.specs.Prelude.{Option, Some, None, true}
+use Rattle.std.specs.Option.{is_some}
+use Rattle.std.proofs.lemmas.List.Quantifiers.{position-Some}
+use Rattle.std.proofs.lemmas.List.{drop-take}
+use Rattle.std.proofs.lemmas.List.Sums.{fails_before_first}
+use Rattle.std.proofs.lemmas.Grind.{common_steps}
+use Rattle.clutters.specs.Steps.{PartAt, between, Written, UnitedWith, United, Tidied}
+use Rattle.clutters.proofs.Clutters.{inside-iff, holds-up, holds-member, holds-within, holds-single, holds-append, holds-with, holds-unions, least-member, in-tidy, tidy-rising, tidy-unique, tidy-same, tidy-holds}
 
 -- ---- the search for a part
 
--- What is found at a place is a part.
-pub part-found : (l : List ℕ) (h i : ℕ) → i < length l → bit_and (get_or l i 0) h ≡ get_or l i 0 → PartAt l h i
-part-found l h i inside e = record { within = omega arith; part = λ _. (subset-and (get_or l i 0) h).1 e; none = λ all. absurd (omega arith) }
-
-pub record Searched (l : List ℕ) (h i : ℕ) : Type 0 where
-  pub place : i ≤ length l
-  pub none : (j : ℕ) → j < i → get_or l j 0 ⊆ h → ⊥
-
-module _ {l : List ℕ} {h i : ℕ} (t : Searched l h i) where
-  -- The next place has none.
-  pub next-searched : i < length l → (bit_and (get_or l i 0) h ≡ get_or l i 0 → ⊥) → Searched l h (i + 1)
-  next-searched inside here = record {
-    place = omega arith;
-    none = λ j k p. elim (eq-or-lt_of_le (le_of_suc-le-suc (rw (add-one i) at k))) [
-      | inl e ↦ here ((subset-and (get_or l i 0) h).0 (rw e at p))
-      | inr before ↦ t.none j before p
-    ];
-  }
-
-  -- After the last place nothing is held.
-  pub last-searched : length l ≤ i → PartAt l h i
-  last-searched all = record {
-    within = t.place;
-    part = λ less. absurd (omega arith);
-    none = λ _ (s, (m, p)). at_mem (λ x. x ⊆ h → ⊥) l (λ j k. t.none j (omega arith)) m p;
-  }
+-- The first set that passes the test of a part is one; if none does, no set is.
+pub part-found : (l : List ℕ) (h : ℕ) (r : Option ℕ) → r ≡ position (λ s. inside s h) l → PartAt l h r
+part-found l h (Some i) e =
+    let found = position-Some (λ s. inside s h) l i 0 (sym e) in
+    (found.0, (inside-iff (get_or l i 0) h).0 (rw found.1 tt))
+part-found l h None e = λ (s, (m, p)).
+    let all : length l ≤ position_or_len (λ s. inside s h) l = grind (arith, common_steps) in
+    at_mem (λ x. x ⊆ h → ⊥) l (λ j k q. (rw (fails_before_first (λ s. inside s h) l j 0 (omega arith)) at ((inside-iff (get_or l j 0) h).1 q))) m p
 
 -- ---- rows from a place on
 
@@ -71,16 +58,27 @@ between_next p i rows h k =
     let there : p + (i - p) ≡ i = omega arith in
     rw (next, take-suc (drop p rows) (i - p) 0 (omega (arith, length-drop p rows)), get_or-drop p rows (i - p) 0, there)
 
--- How many they are.
-between-length : (p m : ℕ) (rows : List ℕ) → p ≤ m → m ≤ length rows → length (between p m rows) ≡ m - p
-between-length p m rows h k = length-take-le (m - p) (drop p rows) (omega (arith, length-drop p rows))
+-- ---- rows that are lent from a place on
 
--- They are among the first.
-between_first : (p m : ℕ) (rows : List ℕ) → p ≤ m → m ≤ length rows → between p m rows ≡ drop p (take m rows)
-between_first p m rows h k =
-    let there : p + (m - p) ≡ m = omega arith in
-    let whole : take m rows ≡ take p rows ++ take (m - p) (drop p rows) = sym (ap (λ n. take n rows) there) ∙ take-add p (m - p) rows in
-    rw whole (sym (drop_at (take p rows) (take (m - p) (drop p rows)) p (length-take-le p rows (omega arith))))
+-- They come back as `part`, behind the others.
+abbrev restored : ℕ → List ℕ → List ℕ → List ℕ
+restored from rows part = put_mid from (length rows - from) rows part
+
+module _ (from : ℕ) (rows part : List ℕ) (within : from ≤ length rows) where
+  -- What is lent.
+  lent : mid_of from (length rows - from) rows ≡ drop from rows
+  lent = take_all (length rows - from) (drop from rows) (omega (arith, length-drop from rows))
+
+  -- What comes back.
+  restored-rest : drop from (restored from rows part) ≡ part
+  restored-rest =
+      drop_at (take from rows) (part ++ drop (length rows - from) (drop from rows)) from (length-take-le from rows within)
+      ∙ ap (λ l. part ++ l) (drop_of_length-le (drop from rows) {i = length rows - from} (omega (arith, length-drop from rows)))
+      ∙ append-nil part
+
+  -- What is not lent.
+  restored-front : take from (restored from rows part) ≡ take from rows
+  restored-front = take_at (take from rows) (part ++ drop (length rows - from) (drop from rows)) from (length-take-le from rows within)
 
 -- ---- sifting
 
@@ -167,10 +165,6 @@ module _ (from : ℕ) (rows₀ : List ℕ) where
   }
 
   module _ {rows : List ℕ} {kept i : ℕ} (t : Sifting from rows₀ rows kept i) where
-    -- As many are kept as stand in front.
-    pub kept-length : length (take (kept - 0) rows) ≡ kept
-    kept-length = length-take-le (kept - 0) rows (omega (arith, t.size, t.few, t.place)) ∙ omega arith
-
     module _ (ascends : Ascending (drop from rows₀)) (inside : i < length rows) where
       -- The row that is looked at.
       abbrev row : ℕ
@@ -216,7 +210,7 @@ module _ (from : ℕ) (rows₀ : List ℕ) where
       }
 
       -- Any other is kept.
-      sifting-in : (HoldsOne (take kept rows) row → ⊥) → Sifting from rows₀ (set rows kept row) (kept + 1) (i + 1)
+      pub sifting-in : (HoldsOne (take kept rows) row → ⊥) → Sifting from rows₀ (set rows kept row) (kept + 1) (i + 1)
       sifting-in none =
           let room : kept < length rows = omega (arith, t.few, inside) in
           record {
@@ -230,16 +224,9 @@ module _ (from : ℕ) (rows₀ : List ℕ) where
             left = drop-set-lt (i + 1) rows kept row (omega (arith, t.few)) ∙ left-more rows t.left;
           }
 
-      module _ {r : ℕ} (part : PartAt (take (kept - 0) rows) row r) where
-        -- By what the search has found: the row is left behind, or it is kept.
-        pub sifting-found : (r ≡ kept → ⊥) → Sifting from rows₀ rows kept (i + 1)
-        sifting-found some =
-            let first : take (kept - 0) rows ≡ take kept rows = ap (λ k. take k rows) (sub-zero kept) in
-            let inside : r < length (take (kept - 0) rows) = omega (arith, kept-length, part.within) in
-            sifting-out (rw (← first) (get_or (take (kept - 0) rows) r 0, (mem-at (take (kept - 0) rows) r 0 inside, part.part inside)))
-
-        pub sifting-none : r ≡ kept → Sifting from rows₀ (set rows kept row) (kept + 1) (i + 1)
-        sifting-none e = sifting-in (λ k. part.none (e ∙ sym kept-length) (rw (sub-zero kept) k))
+      -- By what the search has found: the row is left behind, or it is kept.
+      pub sifting-found : (r : ℕ) → (r < length (take kept rows)) × (get_or (take kept rows) r 0 ⊆ row) → Sifting from rows₀ rows kept (i + 1)
+      sifting-found r (inside, part) = sifting-out (get_or (take kept rows) r 0, (mem-at (take kept rows) r 0 inside, part))
 
     -- After the last row the list is tidied up.
     pub last-sifting : length rows ≤ i → Tidied (drop from rows₀) rows₀ rows kept
@@ -262,30 +249,18 @@ tidy-ascended l m s = tidy-same m l (λ h. (
 ))
 
 module _ (from : ℕ) (rows sorted : List ℕ) (within : from ≤ length rows) (s : Ascended (mid_of from (length rows - from) rows) sorted) where
-  -- The rows with those from `from` on sorted.
-  abbrev restored : List ℕ
-  restored = put_mid from (length rows - from) rows sorted
-
-  lent : mid_of from (length rows - from) rows ≡ drop from rows
-  lent = take_all (length rows - from) (drop from rows) (omega (arith, length-drop from rows))
-
-  sorted_rest : drop from restored ≡ sorted
-  sorted_rest =
-      drop_at (take from rows) (sorted ++ drop (length rows - from) (drop from rows)) from (length-take-le from rows within)
-      ∙ ap (λ l. sorted ++ l) (drop_of_length-le (drop from rows) {i = length rows - from} (omega (arith, length-drop from rows)))
-      ∙ append-nil sorted
-
-  restored-length : length restored ≡ length rows
+  restored-length : length (restored from rows sorted) ≡ length rows
   restored-length = same_len_mid from (length rows - from) rows sorted s.same_length
 
   -- They ascend.
-  pub sorted-ascend : (from ≤ length restored) × Ascending (drop from restored)
-  sorted-ascend = (rw restored-length within, rw sorted_rest s.ascends)
+  pub sorted-ascend : (from ≤ length (restored from rows sorted)) × Ascending (drop from (restored from rows sorted))
+  sorted-ascend = (rw restored-length within, rw (restored-rest from rows sorted within) s.ascends)
 
   -- What is tidied up is what stood there before.
-  pub sorted-tidied : {rows' : List ℕ} {r : ℕ} → Tidied (drop from restored) restored rows' r → Tidied (drop from rows) rows rows' r
+  pub sorted-tidied : {rows' : List ℕ} {r : ℕ} → Tidied (drop from (restored from rows sorted)) (restored from rows sorted) rows' r → Tidied (drop from rows) rows rows' r
   sorted-tidied {rows'} {r} t =
-      let same : tidy (drop from restored) ≡ tidy (drop from rows) = ap tidy sorted_rest ∙ tidy-ascended (drop from rows) sorted (rw lent at s) in
+      let same : tidy (drop from (restored from rows sorted)) ≡ tidy (drop from rows) =
+      ap tidy (restored-rest from rows sorted within) ∙ tidy-ascended (drop from rows) sorted (rw (lent from rows sorted within) at s) in
       record {
         size = t.size ∙ restored-length;
         count = t.count ∙ ap length same;
@@ -303,162 +278,136 @@ spared s l i inside part h =
     )
     (Iff.symm (holds-with s l h)))
 
-module _ {w rows₀ : List ℕ} {at : ℕ} {rows : List ℕ} {n : ℕ} (f : Followed w rows₀ at rows n) where
-  -- One row more behind the others.
-  pub followed-next : n < length rows → (v : ℕ) → Followed (w ++ v ∷ []) rows₀ at (set rows n v) (n + 1)
-  followed-next room v = record {
-    size = length-set rows n v ∙ f.size;
-    end = omega (arith, f.end, length-append w (v ∷ []));
-    written = rw (add-one n, take-suc-set rows n v room, f.written, append_assoc);
+-- No rows are written.
+pub written-none : (rows : List ℕ) → Written [] rows rows 0
+written-none rows = record { size = refl; count = refl; front = refl }
+
+module _ {w rows₀ rows : List ℕ} {n : ℕ} (t : Written w rows₀ rows n) where
+  -- They fit into the rows.
+  written-within : n ≤ length rows
+  written-within = omega (arith, t.count, ap length t.front, length-take n rows)
+
+  -- One row more.
+  written-next : n < length rows → (v : ℕ) → Written (w ++ v ∷ []) rows₀ (set rows n v) (n + 1)
+  written-next room v = record {
+    size = length-set rows n v ∙ t.size;
+    count = omega (arith, t.count, length-append w (v ∷ []));
+    front = rw (add-one n, take-suc-set rows n v room, t.front);
   }
 
-  -- Rows behind those that came behind.
-  followed-more : {v rows' : List ℕ} {r : ℕ} → Followed v rows n rows' r → Followed (w ++ v) rows₀ at rows' r
-  followed-more {v} g = record {
-    size = g.size ∙ f.size;
-    end = omega (arith, f.end, g.end, length-append w v);
-    written = rw (g.written, f.written, append_assoc);
+  -- Rows behind them.
+  written-more : {v part : List ℕ} {r : ℕ} → Written v (mid_of n (length rows - n) rows) part r → Written (w ++ v) rows₀ (restored n rows part) (n + r)
+  written-more {v} {part} {r} more = record {
+    size = same_len_mid n (length rows - n) rows part more.size ∙ t.size;
+    count = omega (arith, t.count, more.count, length-append w v);
+    front = take-add n r (restored n rows part) ∙ rw (restored-front n rows part written-within, restored-rest n rows part written-within, t.front, more.front);
   }
 
-  -- The first rows are as they were.
-  followed-first : at ≤ length rows₀ → (m : ℕ) → m ≤ at → take m rows ≡ take m rows₀
-  followed-first fits m h =
-      sym (take-take m n rows (omega (arith, f.end))) ∙ ap (take m) f.written
-      ∙ take-append-le m (take at rows₀) w (omega (arith, length-take-le at rows₀ fits)) ∙ take-take m at rows₀ h
-
-  -- So is each of them.
-  pub followed-row : at ≤ length rows₀ → (i : ℕ) → i < at → get_or rows i 0 ≡ get_or rows₀ i 0
-  followed-row fits i h =
-      sym (get_or-take at rows i 0 h) ∙ ap (λ l. get_or l i 0) (followed-first fits at (omega arith)) ∙ get_or-take at rows₀ i 0 h
-
--- No rows behind the first.
-followed-none : (rows : List ℕ) (at : ℕ) → Followed [] rows at rows at
-followed-none rows at = record { size = refl; end = omega arith; written = sym (append-nil (take at rows)) }
-
-pub record Writing (s p m : ℕ) (rows₀ : List ℕ) (at : ℕ) (rows : List ℕ) (n j : ℕ) : Type 0 where
-  pub start : p ≤ j
-  pub place : j ≤ m
-  pub followed : Followed (map (bit_or s) (between p j rows₀)) rows₀ at rows n
-
-module _ (s p m : ℕ) (rows₀ : List ℕ) (at : ℕ) (parted : p ≤ m) (behind : m ≤ at) (room : at + (m - p) ≤ length rows₀) where
+module _ (s : ℕ) (l rows₀ : List ℕ) (room : length l ≤ length rows₀) where
   -- If one of the sets lies inside s, s alone is written.
-  pub united-spared : {r : ℕ} → PartAt (between p m rows₀) s r → r < m - p → UnitedWith s (between p m rows₀) rows₀ at (set rows₀ at s) (at + 1)
-  united-spared {r} part h =
-      let l : List ℕ = between p m rows₀ in
-      let inside : r < length l = omega (arith, between-length p m rows₀ parted (omega arith)) in
+  pub united-spared : (r : Option ℕ) → PartAt l s r → is_some r ≡ true → UnitedWith s l rows₀ (set rows₀ 0 s) 1
+  united-spared (Some i) (inside, part) found = record {
+    sets = s ∷ [];
+    few = omega arith;
+    same = spared s l i inside part;
+    written = written-next (written-none rows₀) (omega arith) s;
+  }
+  united-spared None none found = absurd (cc)
+
+  -- The next one is.
+  pub next-writing : {rows : List ℕ} {k : ℕ} → k < length l → Written (map (bit_or s) (take k l)) rows₀ rows k
+      → Written (map (bit_or s) (take (k + 1) l)) rows₀ (set rows k (bit_or s (get_or l k 0))) (k + 1)
+  next-writing {rows} {k} h t =
+      rw (add-one k, take-suc l k 0 h, map-append (bit_or s) (take k l) (get_or l k 0 ∷ []), ← add-one k)
+      (written-next t (omega (arith, t.size)) (bit_or s (get_or l k 0)))
+
+  -- After the last set all unions are written.
+  pub last-writing : {rows : List ℕ} {k : ℕ} → k ≡ length l → Written (map (bit_or s) (take k l)) rows₀ rows k → UnitedWith s l rows₀ rows (length l)
+  last-writing {rows} {k} all t = record {
+    sets = map (bit_or s) l;
+    few = omega (arith, length-map l (bit_or s));
+    same = λ h. Iff.rfl;
+    written = rw (all, take_all (length l) l (omega arith)) at t;
+  }
+
+pub record Uniting (l m rows₀ rows : List ℕ) (end i : ℕ) : Type 0 where
+  pub sets : List ℕ
+  pub few : length sets ≤ i * length m
+  pub same : (h : ℕ) → HoldsOne sets h ↔ HoldsOne (unions (take i l) m) h
+  pub written : Written sets rows₀ rows end
+
+-- At first there are no unions.
+pub first-uniting : (l m rows₀ : List ℕ) → Uniting l m rows₀ rows₀ 0 0
+unfolding unions
+first-uniting l m rows₀ = record { sets = []; few = zero-le; same = λ h. Iff.rfl; written = written-none rows₀ }
+
+module _ (l m rows₀ : List ℕ) {rows : List ℕ} {end i : ℕ} (t : Uniting l m rows₀ rows end i) (inside : i < length l) where
+  -- There are rows for the unions with the next set, behind the others.
+  pub uniting-room : length l * length m ≤ length rows₀ → length m ≤ length (mid_of end (length rows - end) rows)
+  uniting-room room =
+      let more : suc i * length m ≡ i * length m + length m = suc-mul i (length m) in
+      let most : suc i * length m ≤ length l * length m = mul-le-mul_right (length m) inside in
+      rw (lent end rows rows (written-within t.written)) (omega (arith, t.written.count, t.written.size, t.few, more, most, length-drop end rows))
+
+  -- With its unions come those of one set more.
+  pub next-uniting : {part : List ℕ} {r : ℕ} → UnitedWith (get_or l i 0) m (mid_of end (length rows - end) rows) part r → Uniting l m rows₀ (restored end rows part) (end + r) (i + 1)
+  next-uniting {part} {r} u =
+      let x : ℕ = get_or l i 0 in
+      let next : take (i + 1) l ≡ take i l ++ x ∷ [] = rw (add-one i) (take-suc l i 0 inside) in
+      let with-next : (h : ℕ) → HoldsOne u.sets h ↔ ((x ⊆ h) × HoldsOne m h) = λ h. Iff.trans (u.same h) (holds-with x m h) in
+      let before : (h : ℕ) → HoldsOne t.sets h ↔ (HoldsOne (take i l) h × HoldsOne m h) =
+      λ h. Iff.trans (t.same h) (holds-unions (take i l) m h) in
+      let both : (h : ℕ) → HoldsOne (t.sets ++ u.sets) h ↔ (HoldsOne (take i l ++ x ∷ []) h × HoldsOne m h) = λ h. (
+        λ k. elim ((holds-append t.sets u.sets h).0 k) [
+          | inl a ↦ let (b, q) = (before h).0 a in ((holds-append (take i l) (x ∷ []) h).1 (inl b), q)
+          | inr a ↦ let (b, q) = (with-next h).0 a in ((holds-append (take i l) (x ∷ []) h).1 (inr ((holds-single x h).1 b)), q)
+        ],
+        λ (k, q). (holds-append t.sets u.sets h).1 (elim ((holds-append (take i l) (x ∷ []) h).0 k) [
+          | inl a ↦ inl ((before h).1 (a, q))
+          | inr a ↦ inr ((with-next h).1 ((holds-single x h).0 a, q))
+        ]),
+      ) in
       record {
-        sets = s ∷ [];
-        few = omega arith;
-        same = spared s l r inside (part.part inside);
-        followed = followed-next (followed-none rows₀ at) (omega arith) s;
+        sets = t.sets ++ u.sets;
+        few = rw (add-one i, suc-mul i (length m)) (omega (arith, t.few, u.few, length-append t.sets u.sets));
+        same = λ h. rw next (Iff.trans (both h) (Iff.symm (holds-unions (take i l ++ x ∷ []) m h)));
+        written = written-more t.written u.written;
       }
 
-  -- At first no union is written.
-  pub first-writing : Writing s p m rows₀ at rows₀ at p
-  first-writing = record { start = omega arith; place = parted; followed = rw (sub_self p) (followed-none rows₀ at) }
+module _ (p m : ℕ) (rows : List ℕ) (parted : p ≤ m) (room : m + p * (m - p) ≤ length rows) {lists behind first second : List ℕ}
+    (lists-are : lists ≡ take m rows) (behind-is : behind ≡ drop m rows) (first-is : first ≡ take p lists) (second-is : second ≡ drop p lists) where
+  -- How many sets stand in both lists, in the first and in the second.
+  lists-length : length lists ≡ m
+  lists-length = rw lists-are (length-take-le m rows (omega arith))
 
-  module _ {rows : List ℕ} {n j : ℕ} (t : Writing s p m rows₀ at rows n j) where
-    -- How many are written.
-    written_count : n ≡ at + (j - p)
-    written_count =
-        t.followed.end
-        ∙ ap (λ k. at + k) (length-map (between p j rows₀) (bit_or s) ∙ between-length p j rows₀ t.start (omega (arith, t.place)))
+  first-length : length first ≡ p
+  first-length = rw first-is (length-take-le p lists (omega (arith, lists-length)))
 
-    -- There is a row for the next one.
-    pub writing-room : j < m → n < length rows
-    writing-room h = omega (arith, written_count, t.followed.size, t.start)
+  second-length : length second ≡ m - p
+  second-length = rw second-is (omega (arith, length-drop p lists, lists-length))
 
-    -- It is written.
-    pub next-writing : j < m → Writing s p m rows₀ at (set rows n (bit_or s (get_or rows j 0))) (n + 1) (j + 1)
-    next-writing h =
-        let more : map (bit_or s) (between p (j + 1) rows₀) ≡ map (bit_or s) (between p j rows₀) ++ bit_or s (get_or rows₀ j 0) ∷ [] =
-        ap (map (bit_or s)) (between_next p j rows₀ t.start (omega arith)) ∙ map-append (bit_or s) (between p j rows₀) (get_or rows₀ j 0 ∷ []) in
-        record {
-          start = omega (arith, t.start);
-          place = omega arith;
-          followed =
-              rw (more, followed-row t.followed (omega arith) j (omega arith))
-              (followed-next t.followed (writing-room h) (bit_or s (get_or rows₀ j 0)));
-        }
+  -- There are rows for all unions.
+  pub unions-room : length first * length second ≤ length behind
+  unions-room = rw (first-length, second-length, behind-is) (omega (arith, length-drop m rows, room))
 
-    -- After the last set all unions are written.
-    pub last-writing : m ≤ j → UnitedWith s (between p m rows₀) rows₀ at rows n
-    last-writing h =
-        let all : j ≡ m = omega (arith, t.place) in
-        record {
-          sets = map (bit_or s) (between p m rows₀);
-          few = omega (arith, length-map (between p m rows₀) (bit_or s));
-          same = λ h. Iff.rfl;
-          followed = rw (← all) t.followed;
-        }
-
-pub record Uniting (p m : ℕ) (rows₀ rows : List ℕ) (end i : ℕ) : Type 0 where
-  pub sets : List ℕ
-  pub place : i ≤ p
-  pub few : length sets ≤ i * (m - p)
-  pub same : (h : ℕ) → HoldsOne sets h ↔ HoldsOne (unions (take i rows₀) (between p m rows₀)) h
-  pub followed : Followed sets rows₀ m rows end
-
-module _ (p m : ℕ) (rows₀ : List ℕ) (parted : p ≤ m) (room : m + p * (m - p) ≤ length rows₀) where
-  -- At first there are no unions.
-  pub first-uniting : Uniting p m rows₀ rows₀ m 0
-  unfolding unions
-  first-uniting = record { sets = []; place = zero-le; few = zero-le; same = λ h. Iff.rfl; followed = followed-none rows₀ m }
-
-  module _ {rows : List ℕ} {end i : ℕ} (t : Uniting p m rows₀ rows end i) where
-    -- There are rows for the unions with the next set, behind the others.
-    pub uniting-room : i < p → (m ≤ end) × (end + (m - p) ≤ length rows)
-    uniting-room h =
-        let more : suc i * (m - p) ≡ i * (m - p) + (m - p) = suc-mul i (m - p) in
-        let most : suc i * (m - p) ≤ p * (m - p) = mul-le-mul_right (m - p) h in
-        (omega (arith, t.followed.end), omega (arith, t.followed.end, t.followed.size, t.few, more, most, room))
-
-    -- The sets that it is united with are as they were.
-    others-kept : between p m rows ≡ between p m rows₀
-    others-kept =
-        let fits : m ≤ length rows₀ = omega arith in
-        let fits' : m ≤ length rows = omega (arith, t.followed.size) in
-        between_first p m rows parted fits'
-        ∙ ap (drop p) (followed-first t.followed fits m (omega arith))
-        ∙ sym (between_first p m rows₀ parted fits)
-
-    -- With its unions come those of one set more.
-    pub next-uniting : i < p → {rows' : List ℕ} {r : ℕ} → UnitedWith (get_or rows i 0) (between p m rows) rows end rows' r → Uniting p m rows₀ rows' r (i + 1)
-    next-uniting h {rows'} {r} u =
-        let fits : m ≤ length rows₀ = omega arith in
-        let l : List ℕ = between p m rows₀ in
-        let x : ℕ = get_or rows₀ i 0 in
-        let row : get_or rows i 0 ≡ x = followed-row t.followed fits i (omega arith) in
-        let next : take (i + 1) rows₀ ≡ take i rows₀ ++ x ∷ [] = rw (add-one i) (take-suc rows₀ i 0 (omega arith)) in
-        let with-next : (h : ℕ) → HoldsOne u.sets h ↔ ((x ⊆ h) × HoldsOne l h) =
-        λ h. Iff.trans (rw (row, others-kept) at (u.same h)) (holds-with x l h) in
-        let before : (h : ℕ) → HoldsOne t.sets h ↔ (HoldsOne (take i rows₀) h × HoldsOne l h) =
-        λ h. Iff.trans (t.same h) (holds-unions (take i rows₀) l h) in
-        let both : (h : ℕ) → HoldsOne (t.sets ++ u.sets) h ↔ (HoldsOne (take i rows₀ ++ x ∷ []) h × HoldsOne l h) = λ h. (
-          λ k. elim ((holds-append t.sets u.sets h).0 k) [
-            | inl a ↦ let (b, q) = (before h).0 a in ((holds-append (take i rows₀) (x ∷ []) h).1 (inl b), q)
-            | inr a ↦ let (b, q) = (with-next h).0 a in ((holds-append (take i rows₀) (x ∷ []) h).1 (inr ((holds-single x h).1 b)), q)
-          ],
-          λ (k, q). (holds-append t.sets u.sets h).1 (elim ((holds-append (take i rows₀) (x ∷ []) h).0 k) [
-            | inl a ↦ inl ((before h).1 (a, q))
-            | inr a ↦ inr ((with-next h).1 ((holds-single x h).0 a, q))
-          ]),
-        ) in
-        record {
-          sets = t.sets ++ u.sets;
-          place = omega arith;
-          few = rw (add-one i, suc-mul i (m - p)) (omega (arith, t.few, u.few, length-append t.sets u.sets, between-length p m rows parted (omega (arith, t.followed.size))));
-          same = λ h. rw next (Iff.trans (both h) (Iff.symm (holds-unions (take i rows₀ ++ x ∷ []) l h)));
-          followed = followed-more t.followed u.followed;
-        }
-
-    -- After the last set there are the unions of all.
-    pub last-uniting : p ≤ i → United p m rows₀ rows end
-    last-uniting h =
-        let all : i ≡ p = omega (arith, t.place) in
-        record {
-          sets = t.sets;
-          same = rw all at t.same;
-          followed = t.followed;
-          within = omega (arith, t.followed.end, rw all at t.few, room);
-        }
+  -- After the last set the unions of all stand behind the two lists.
+  pub last-uniting : {written : List ℕ} {end i : ℕ} → Uniting first second behind written end i → i ≡ length first → United p m rows (lists ++ written) (m + end)
+  last-uniting {written} {end} {i} t all =
+      let whole : i ≡ p = all ∙ first-length in
+      let first-are : take i first ≡ take p rows =
+      rw (whole, first-is, lists-are) (take-take p p (take m rows) (omega arith) ∙ take-take p m rows parted) in
+      let there : p + (m - p) ≡ m = omega arith in
+      let second-are : second ≡ between p m rows = rw (second-is, lists-are) (rw there at (drop-take p (m - p) rows)) in
+      let few : length t.sets ≤ p * (m - p) = rw (whole, second-length) at t.few in
+      record {
+        sets = t.sets;
+        same = rw (first-are, second-are) at t.same;
+        followed = record {
+          size = omega (arith, length-append lists written, lists-length, t.written.size, ap length behind-is, length-drop m rows, room);
+          end = omega (arith, t.written.count);
+          written =
+              take-add m end (lists ++ written)
+              ∙ rw (take_at lists written m lists-length, drop_at lists written m lists-length, t.written.front, lists-are);
+        };
+        within = omega (arith, t.written.count, few, room);
+      }

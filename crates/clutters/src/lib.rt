@@ -2,70 +2,69 @@
 // loses every set that holds another one.
 #![tactic(auto)]
 
-ghost use Rattle.std.specs.Prelude.{◌≡◌, ◌+◌, ◌*◌, ◌-◌, ◌≤◌, ◌<◌, length, drop};
+ghost use Rattle.std.specs.Prelude.{◌≡◌, ◌+◌, ◌*◌, ◌-◌, ◌≤◌, ◌<◌, length, drop, position};
 ghost use Rattle.sorting.specs.Sorted.{Ascending};
-ghost use Rattle.clutters.specs.Steps.{PartAt, between, UnitedWith, United, Tidied};
+ghost use Rattle.clutters.specs.Clutters.{inside};
+ghost use Rattle.clutters.specs.Steps.{PartAt, UnitedWith, United, Tidied};
 
 use ordering::sort_sets;
 
-// The place of a set that lies inside the given one; their number, if there is none. The set at the place `guess`, if there is one, is
-// looked at first.
-fn part_at(sets: &[u64], set: u64, guess: usize) -> usize
-    ensures { PartAt sets.now set result }
+// Whether a set lies inside another.
+fn lies_inside(part: u64, set: u64) -> bool
+    ensures { result ≡ inside part set }
 {
-    if guess < sets.len() {
-        let guessed = sets[guess];
-        if guessed & set == guessed {
-            return guess;
-        }
-    }
-    let mut i = 0;
-    while i < sets.len() {
-        let part = sets[i];
-        if part & set == part {
-            return i;
-        }
-        i += 1;
-    }
-    i
+    part & set == part
 }
 
-// Writes the unions of a set with those at the places p to m from the place `at` on, and gives the place after them. If one of those lies
-// inside the set, every union holds the set, and it is written alone.
-fn unite_with(rows: &mut [u64], p: usize, m: usize, set: u64, at: usize) -> usize
-    requires { (p ≤ m) × (m ≤ at) × (at + (m - p) ≤ length rows.old) }
-    ensures { UnitedWith set (between p m rows.old) rows.old at rows.new result }
+// The place of the first set that lies inside the given one.
+fn first_part(sets: &[u64], set: u64) -> Option<usize>
+    ensures { result ≡ position (λ part. inside part set) sets.now }
 {
-    let found = part_at(&rows[p..m], set, 0);
-    if found < m - p {
-        rows[at] = set;
-        return at + 1;
+    sets.iter().position(|part| lies_inside(*part, set))
+}
+
+// The place of a set that lies inside the given one. The set at the place `guess`, if there is one, is looked at first.
+fn part_at(sets: &[u64], set: u64, guess: usize) -> Option<usize>
+    ensures { PartAt sets.now set result }
+{
+    if guess < sets.len() && lies_inside(sets[guess], set) {
+        return Some(guess);
     }
-    let mut n = at;
-    let mut j = p;
-    while j < m {
-        let other = rows[j];
-        rows[n] = set | other;
-        n += 1;
-        j += 1;
+    first_part(sets, set)
+}
+
+// Writes the unions of a set with others from the first row on, and gives how many rows they take. If one of the others lies inside the
+// set, every union holds the set, and it is written alone.
+fn unite_with(unions: &mut [u64], set: u64, others: &[u64]) -> usize
+    requires { length others.now ≤ length unions.old }
+    ensures { UnitedWith set others.now unions.old unions.new result }
+{
+    let spared = first_part(others, set).is_some();
+    if spared {
+        unions[0] = set;
+        return 1;
     }
-    n
+    // By place, since no proof knows what is written through `iter_mut`.
+    for k in 0..others.len() {
+        let other = others[k];
+        unions[k] = set | other;
+    }
+    others.len()
 }
 
 // Writes the unions of one of the first p sets and one of those at the places p to m from the place m on, and gives the place after them.
-// Of unions that hold another some are left out.
+// Of unions that hold another some are left out. The lists and their unions stand in one area, as the caller lends it.
 pub fn unite(rows: &mut [u64], p: usize, m: usize) -> usize
     requires { (p ≤ m) × (m + p * (m - p) ≤ length rows.old) }
     ensures { United p m rows.old rows.new result }
 {
-    let mut end = m;
-    let mut i = 0;
-    while i < p {
-        let set = rows[i];
-        end = unite_with(rows, p, m, set, end);
-        i += 1;
+    let (lists, unions) = rows.split_at_mut(m);
+    let (first, second) = lists.split_at(p);
+    let mut end = 0;
+    for set in first {
+        end += unite_with(&mut unions[end..], *set, second);
     }
-    end
+    m + end
 }
 
 // Keeps each of the sets from the place `from` on, which ascend, unless it holds one that is kept already: a part is never the larger
@@ -76,16 +75,18 @@ fn sift(rows: &mut [u64], from: usize) -> usize
 {
     let mut kept: usize = 0;
     let mut part: usize = 0;
-    let mut i = from;
-    while i < rows.len() {
+    // By place, since those that are kept are written in front of those still to be looked at.
+    for i in from..rows.len() {
         let set = rows[i];
         // What lies inside a set often lies inside the next one too.
-        part = part_at(&rows[0..kept], set, part);
-        if part == kept {
-            rows[kept] = set;
-            kept += 1;
+        match part_at(&rows[..kept], set, part) {
+            Some(place) => part = place,
+            None => {
+                rows[kept] = set;
+                part = kept;
+                kept += 1;
+            }
         }
-        i += 1;
     }
     kept
 }

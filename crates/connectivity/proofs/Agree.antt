@@ -1,8 +1,9 @@
 -- Networks that agree have the same relevant part, and a set of edges is judged alike in both.
 -- Assumes accepted networks, and for judging that both have the edges of the set.
-use mathlib.Core.Path.{◌≡◌, sym, ◌∙◌}
+use mathlib.Core.Path.{◌≡◌, sym, ap, ◌∙◌}
 use mathlib.Core.Bool.{true, false, not}
 use Prim.Native.Nat.{ℕ, ◌^◌}
+use Rattle.std.specs.Prelude.{Ok}
 use Rattle.sequences.specs.Words.{every}
 use Rattle.bitset.specs.Members.{◌⊆◌, ◌∖◌, members}
 use Rattle.network.specs.declared.Network.{Network}
@@ -11,7 +12,7 @@ use Rattle.network.proofs.Sets.{set-none}
 use Rattle.graph.specs.CutTests.{all_needed}
 use Rattle.graph.proofs.Sound.{Sound, accepted-sound}
 use Rattle.graph.proofs.Agree.{Agree, nodes-agree, edges-agree, severed-agree}
-use Rattle.connectivity.specs.declared.Verdict.TheVariants.{NotCut, NotMinimal, Minimal}
+use Rattle.connectivity.specs.declared.judging.Verdict.TheVariants.{NotCut, NotMinimal, Minimal}
 use Rattle.connectivity.specs.Answers.{relevant_of, verdict_on, verdict_of}
 use Rattle.connectivity.proofs.Answers.{verdict-judged}
 
@@ -38,4 +39,4 @@ module _ (N M : Network) (stored : Stored N) (stored' : Stored M) (ok : fault_of
 
   pub verdict-agrees : (c : ℕ) → c ⊆ present N → c ⊆ present M → verdict_of N c ≡ verdict_of M c
   verdict-agrees c within within' =
-      verdict-judged N c (set-none N c ok within) ∙ on_agrees c ∙ sym (verdict-judged M c (set-none M c ok' within'))
+      verdict-judged N c (set-none N c ok within) ∙ ap Ok (on_agrees c) ∙ sym (verdict-judged M c (set-none M c ok' within'))

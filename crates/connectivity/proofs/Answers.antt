@@ -16,7 +16,10 @@ use Rattle.bitset.proofs.Sets.{member-lt}
 use Rattle.bitset.proofs.MemberList.{in_members}
 use Rattle.network.specs.declared.Network.{Network}
 use Rattle.network.specs.Record.{unless_refused, fault_of, set_fault, Stored, present}
-use Rattle.network.proofs.Refusals.{refused-some}
+use Rattle.std.specs.Result.{IsErrAnd}
+use Rattle.network.specs.declared.refusal.Refusal.{Refusal}
+use Rattle.network.specs.Refusals.{number_of}
+use Rattle.network.proofs.Refusals.{refused-some, number-some}
 use Rattle.network.proofs.Sets.{set-none, set-ok}
 use Rattle.graph.specs.Reach.{Bounded}
 use Rattle.graph.specs.Cuts.{Cut, Mincut}
@@ -25,17 +28,25 @@ use Rattle.graph.specs.Relevant.{relevant_nodes, relevant_edges}
 use Rattle.graph.proofs.Cuts.{severed-iff, cut_test-iff, mincut_test-iff}
 use Rattle.graph.proofs.Sound.{Sound, accepted-sound}
 use Rattle.graph.proofs.Relevant.{in-relevant_nodes, in-relevant_edges}
-use Rattle.connectivity.specs.declared.RelevantPart.{RelevantPart}
-use Rattle.connectivity.specs.declared.Verdict.{Verdict}
-use Rattle.connectivity.specs.declared.Verdict.TheVariants.{NotCut, NotMinimal, Minimal, Refused}
-use Rattle.connectivity.specs.Answers.{part_from, relevant_of, PartMeans, verdict_on, verdict_of, Says, VerdictMeans}
+use Rattle.std.specs.Prelude.{Result, Ok, Err}
+use Rattle.connectivity.specs.declared.part.RelevantPart.{RelevantPart}
+use Rattle.connectivity.specs.declared.judging.Verdict.{Verdict}
+use Rattle.connectivity.specs.declared.judging.Verdict.TheVariants.{NotCut, NotMinimal, Minimal}
+use Rattle.connectivity.specs.Answers.{FoundPart, part_from, found, relevant_of, PartMeans, numbered, verdict_on, verdict_of, Says, VerdictMeans}
 
 -- ---- the relevant part
 
 -- Beside a refusal both sets are empty.
-pub part-refused : (N : Network) (r n e : ℕ) → r ≡ fault_of N → (r ≡ 0 → ⊥) → n ≡ 0 → e ≡ 0 → part_from r n e ≡ relevant_of N
+pub part-refused : (N : Network) (r : ℕ) → fault_of N ≡ r → (r ≡ 0 → ⊥) → part_from r 0 0 ≡ relevant_of N
 unfolding relevant_of
-part-refused N r n e fault some q s = rw (← fault, q, s, refused-some r (relevant_nodes N) 0 some, refused-some r (relevant_edges N) 0 some)
+part-refused N r fault some = rw (fault, refused-some r (relevant_nodes N) 0 some, refused-some r (relevant_edges N) 0 some)
+
+-- So they are where it is passed on.
+pub part-passed : (N : Network) (a : Result RelevantPart Refusal) (r : Refusal) → IsErrAnd a (λ e. e ≡ r) → fault_of N ≡ number_of r
+    → found a ≡ relevant_of N
+part-passed N (Ok p) r passed fault = absurd passed
+part-passed N (Err e) r passed fault =
+    ap (λ x. part_from (number_of x) 0 0) passed ∙ part-refused N (number_of r) fault (number-some r)
 
 -- Without a refusal they are the relevant nodes and edges.
 pub part-accepted : (N : Network) (n e : ℕ) → fault_of N ≡ 0 → n ≡ relevant_nodes N → e ≡ relevant_edges N → part_from 0 n e ≡ relevant_of N
@@ -43,23 +54,23 @@ unfolding relevant_of
 part-accepted N n e ok q s = rw (ok, q, s)
 
 -- The refusal beside the relevant part is the record's first fault.
-pub part-refusal : (N : Network) (p : RelevantPart) → p ≡ relevant_of N → p.refusal ≡ fault_of N
+pub part-refusal : (N : Network) (p : FoundPart) → p ≡ relevant_of N → p.refusal ≡ fault_of N
 unfolding relevant_of
-part-refusal N p e = ap (λ (q : RelevantPart). q.refusal) e
+part-refusal N p e = ap (λ (q : FoundPart). q.refusal) e
 
 -- Without a refusal the two sets are the relevant ones.
-module _ (N : Network) (p : RelevantPart) (e : p ≡ relevant_of N) (none : p.refusal ≡ 0) where
+module _ (N : Network) (p : FoundPart) (e : p ≡ relevant_of N) (none : p.refusal ≡ 0) where
   part-whole : p ≡ part_from 0 (relevant_nodes N) (relevant_edges N)
   part-whole = e ∙ sym (part-accepted N (relevant_nodes N) (relevant_edges N) (sym (part-refusal N p e) ∙ none) refl refl)
 
   pub part-nodes : p.nodes.0 ≡ relevant_nodes N
-  part-nodes = ap (λ (q : RelevantPart). q.nodes.0) part-whole
+  part-nodes = ap (λ (q : FoundPart). q.nodes.0) part-whole
 
   pub part-edges : p.edges.0 ≡ relevant_edges N
-  part-edges = ap (λ (q : RelevantPart). q.edges.0) part-whole
+  part-edges = ap (λ (q : FoundPart). q.edges.0) part-whole
 
 -- Their members are then exactly the relevant nodes and edges.
-pub part-means : (N : Network) → Stored N → (p : RelevantPart) → p ≡ relevant_of N → PartMeans N p.refusal p.nodes.0 p.edges.0
+pub part-means : (N : Network) → Stored N → (p : FoundPart) → p ≡ relevant_of N → PartMeans N p.refusal p.nodes.0 p.edges.0
 part-means N stored p e =
     let sound : p.refusal ≡ 0 → Sound N = λ none. accepted-sound N stored (sym (part-refusal N p e) ∙ none) in record {
       stored = stored;
@@ -87,29 +98,34 @@ module _ (N : Network) (c : ℕ) where
 
   -- ---- the verdict from the tests
 
-  -- The verdict beside a refusal is the refusal.
-  pub verdict-refused : (r : ℕ) → set_fault N c ≡ r → (r ≡ 0 → ⊥) → Refused r ≡ verdict_of N c
+  -- A refusal is the verdict.
+  pub verdict-refused : (r : ℕ) → set_fault N c ≡ r → (r ≡ 0 → ⊥) → Err r ≡ verdict_of N c
   unfolding verdict_of
-  verdict-refused r fault some = rw fault (sym (refused-some r (verdict_on N c) (Refused r) some))
+  verdict-refused r fault some = rw fault (sym (refused-some r (Ok (verdict_on N c)) (Err r) some))
+
+  -- So is one that is passed on.
+  pub verdict-passed : (a : Result Verdict Refusal) (r : Refusal) → IsErrAnd a (λ e. e ≡ r) → set_fault N c ≡ number_of r → numbered a ≡ verdict_of N c
+  verdict-passed (Ok v) r passed fault = absurd passed
+  verdict-passed (Err e) r passed fault = ap (λ x. Err (number_of x)) passed ∙ verdict-refused (number_of r) fault (number-some r)
 
   -- Without a refusal it is the verdict on the set.
-  pub verdict-judged : set_fault N c ≡ 0 → verdict_of N c ≡ verdict_on N c
+  pub verdict-judged : set_fault N c ≡ 0 → verdict_of N c ≡ Ok (verdict_on N c)
   unfolding verdict_of
   verdict-judged none = rw none
 
   module _ (ok : fault_of N ≡ 0) (within : c ⊆ present N) where
     -- A set that severs nothing is not a cut.
-    pub verdict-not-cut : severed N c ≡ false → NotCut ≡ verdict_of N c
+    pub verdict-not-cut : severed N c ≡ false → Ok NotCut ≡ verdict_of N c
     unfolding verdict_on
     verdict-not-cut e = sym (verdict-judged (set-none N c ok within) ∙ rw (e, verdict_on))
 
     -- A set that severs, and whose members are all needed, is minimal.
-    pub verdict-minimal : severed N c ≡ true → all_needed N c ≡ true → Minimal ≡ verdict_of N c
+    pub verdict-minimal : severed N c ≡ true → all_needed N c ≡ true → Ok Minimal ≡ verdict_of N c
     unfolding verdict_on
     verdict-minimal e f = sym (verdict-judged (set-none N c ok within) ∙ rw (e, f, verdict_on))
 
     -- A set that severs, and whose members are not all needed, is not minimal.
-    pub verdict-not-minimal : severed N c ≡ true → all_needed N c ≡ false → NotMinimal ≡ verdict_of N c
+    pub verdict-not-minimal : severed N c ≡ true → all_needed N c ≡ false → Ok NotMinimal ≡ verdict_of N c
     unfolding verdict_on
     verdict-not-minimal e f = sym (verdict-judged (set-none N c ok within) ∙ rw (e, f, verdict_on))
 
@@ -125,7 +141,7 @@ mincut-needed N B c k =
     )
 
 -- On a set of present edges the verdict is right.
-on-right : (N : Network) → Bounded N → (c : ℕ) → c ⊆ present N → Says N c (verdict_on N c)
+on-right : (N : Network) → Bounded N → (c : ℕ) → c ⊆ present N → Says N c (Ok (verdict_on N c))
 unfolding verdict_on
 on-right N B c within = go (severed N c) refl (all_needed N c) refl
   where
@@ -133,7 +149,7 @@ on-right N B c within = go (severed N c) refl (all_needed N c) refl
     cut e = (severed-iff N B c within).0 (passes (severed N c) e)
 
     go : (a : Bool) → severed N c ≡ a → (b : Bool) → all_needed N c ≡ b
-        → Says N c (elim a [ true ↦ elim b [ true ↦ Minimal | false ↦ NotMinimal ] | false ↦ NotCut ])
+        → Says N c (Ok (elim a [ true ↦ elim b [ true ↦ Minimal | false ↦ NotMinimal ] | false ↦ NotCut ]))
     go true e true f = (mincut-needed N B c (cut e)).1 (passes (all_needed N c) f)
     go true e false f = (cut e, λ m. rw f at ((mincut-needed N B c (cut e)).0 m))
     go false e b f = λ k. rw e at ((severed-iff N B c within).1 k)
@@ -144,32 +160,32 @@ module _ (N : Network) (stored : Stored N) (c : ℕ) where
   unfolding verdict_of
   verdict-right = go (set_fault N c) refl
     where
-      go : (r : ℕ) → set_fault N c ≡ r → Says N c (unless_refused r (verdict_on N c) (Refused r))
+      go : (r : ℕ) → set_fault N c ≡ r → Says N c (unless_refused r (Ok (verdict_on N c)) (Err r))
       go zero e = let p = set-ok N c e in on-right N (accepted-sound N stored p.0).bounded c p.1
       go (suc r) e = (e, zero-lt-suc r)
 
   -- Beside the answer stands what it means.
-  pub verdict-means : {v : Verdict} → v ≡ verdict_of N c → (v ≡ verdict_of N c) × VerdictMeans N c v
+  pub verdict-means : {v : Result Verdict ℕ} → v ≡ verdict_of N c → (v ≡ verdict_of N c) × VerdictMeans N c v
   verdict-means e = (e, record { stored = stored; says = rw e verdict-right })
 
   -- Of a set of present edges of an accepted network, the verdict is v exactly if what v says holds: exactly one of the three does.
-  pub verdict-iff : fault_of N ≡ 0 → c ⊆ present N → (v : Verdict) → (verdict_of N c ≡ v) ↔ Says N c v
+  pub verdict-iff : fault_of N ≡ 0 → c ⊆ present N → (v : Result Verdict ℕ) → (verdict_of N c ≡ v) ↔ Says N c v
   verdict-iff ok within v = (λ e. rw e at verdict-right, go (verdict_of N c) v verdict-right)
     where
       accepted : (r : ℕ) → (set_fault N c ≡ r) × (0 < r) → ⊥
       accepted r p = omega (arith, set-none N c ok within)
 
-      go : (w v : Verdict) → Says N c w → Says N c v → w ≡ v
-      go NotCut NotCut p q = refl
-      go NotCut NotMinimal p q = absurd (p q.0)
-      go NotCut Minimal p q = absurd (p q.cut)
-      go NotCut (Refused r) p q = absurd (accepted r q)
-      go NotMinimal NotCut p q = absurd (q p.0)
-      go NotMinimal NotMinimal p q = refl
-      go NotMinimal Minimal p q = absurd (p.1 q)
-      go NotMinimal (Refused r) p q = absurd (accepted r q)
-      go Minimal NotCut p q = absurd (q p.cut)
-      go Minimal NotMinimal p q = absurd (q.1 p)
-      go Minimal Minimal p q = refl
-      go Minimal (Refused r) p q = absurd (accepted r q)
-      go (Refused r) v p q = absurd (accepted r p)
+      go : (w v : Result Verdict ℕ) → Says N c w → Says N c v → w ≡ v
+      go (Ok NotCut) (Ok NotCut) p q = refl
+      go (Ok NotCut) (Ok NotMinimal) p q = absurd (p q.0)
+      go (Ok NotCut) (Ok Minimal) p q = absurd (p q.cut)
+      go (Ok NotCut) (Err r) p q = absurd (accepted r q)
+      go (Ok NotMinimal) (Ok NotCut) p q = absurd (q p.0)
+      go (Ok NotMinimal) (Ok NotMinimal) p q = refl
+      go (Ok NotMinimal) (Ok Minimal) p q = absurd (p.1 q)
+      go (Ok NotMinimal) (Err r) p q = absurd (accepted r q)
+      go (Ok Minimal) (Ok NotCut) p q = absurd (q p.cut)
+      go (Ok Minimal) (Ok NotMinimal) p q = absurd (q.1 p)
+      go (Ok Minimal) (Ok Minimal) p q = refl
+      go (Ok Minimal) (Err r) p q = absurd (accepted r q)
+      go (Err r) v p q = absurd (accepted r p)

@@ -1,71 +1,54 @@
 // Judging a set of edges: one spread tells whether it is a cut, and one more for each member whether it is minimal.
 ghost use Rattle.std.specs.Prelude.{◌≡◌};
-ghost use Rattle.network.specs.Record.{fault_of};
 ghost use Rattle.graph.specs.CutTests.{all_needed};
-ghost use Rattle.connectivity.specs.Answers.{verdict_of, VerdictMeans, numbers_of};
+ghost use Rattle.connectivity.specs.Answers.{numbered, verdict_of, VerdictMeans, verdict_number};
 
-use crate::Verdict;
 use crate::silence::severed;
 use edge_set::EdgeSet;
-use network::Network;
+use network::{Accepted, Network, Refusal, set_fault};
+use sets::BitSet;
+
+// What a set of edges is, with the numbers of the paper's order.
+#[derive(Clone, Copy, PartialEq, Eq)]
+pub enum Verdict {
+    NotCut = 1, // not a cut
+    NotMinimal = 2, // a cut but not minimal
+    Minimal = 3, // minimal
+}
+
+impl From<Verdict> for u8 {
+    ghost from_gives = { λ verdict number. number ≡ verdict_number verdict };
+
+    fn from(verdict: Verdict) -> u8 {
+        verdict as u8
+    }
+}
 
 // Whether no member of the set can be dropped: without the others alone the source reaches the sink.
-fn all_needed(network: Network, set: EdgeSet) -> bool
-    requires { fault_of network ≡ 0 }
-    ensures { result ≡ all_needed network set.0 }
+fn all_needed(accepted: Accepted, set: EdgeSet) -> bool
+    ensures { result ≡ all_needed accepted.network set.0 }
 {
-    let mut left = set;
-    loop {
-        let k = left.lowest();
-        if 64 <= k {
-            return true;
-        }
-        if severed(network, set.without(k)) {
+    for k in set.members() {
+        if severed(accepted, set.without(k)) {
             return false;
         }
-        left = left.without_lowest();
     }
+    true
 }
 
 // What a set of edges is: the record's first fault, then 14; else exactly one of the three verdicts.
-pub fn classify(network: Network, set: EdgeSet) -> Verdict
-    ensures value { result ≡ verdict_of network set.0 }
-    ensures means { VerdictMeans network set.0 result }
+pub fn classify(network: Network, set: EdgeSet) -> Result<Verdict, Refusal>
+    ensures value { numbered result ≡ verdict_of network set.0 }
+    ensures means { VerdictMeans network set.0 (numbered result) }
 {
-    let refusal = network::set_fault(network, set);
-    if refusal != 0 {
-        return Verdict::Refused(refusal);
+    set_fault(network, set)?;
+    let accepted = Accepted { network };
+    if !severed(accepted, set) {
+        return Ok(Verdict::NotCut);
     }
-    if !severed(network, set) {
-        return Verdict::NotCut;
-    }
-    if all_needed(network, set) {
-        Verdict::Minimal
+    if all_needed(accepted, set) {
+        Ok(Verdict::Minimal)
     } else {
-        Verdict::NotMinimal
-    }
-}
-
-// The number of a verdict's refusal, 0 if there is none.
-pub fn refusal_number(verdict: Verdict) -> u8
-    ensures { result ≡ (numbers_of verdict).refusal }
-{
-    match verdict {
-        Verdict::Refused(refusal) => refusal,
-        Verdict::NotCut => 0,
-        Verdict::NotMinimal => 0,
-        Verdict::Minimal => 0,
-    }
-}
-
-// A verdict's place in the paper's order: 1 not a cut, 2 a cut but not minimal, 3 minimal; 0 for no verdict.
-pub fn verdict_number(verdict: Verdict) -> u8
-    ensures { result ≡ (numbers_of verdict).verdict }
-{
-    match verdict {
-        Verdict::Refused(_) => 0,
-        Verdict::NotCut => 1,
-        Verdict::NotMinimal => 2,
-        Verdict::Minimal => 3,
+        Ok(Verdict::NotMinimal)
     }
 }

@@ -1,24 +1,24 @@
 // Silence: whether the source is cut off from the sink where a set of edges is down. One spread tells; from one set to the next, often none.
 ghost use Rattle.std.specs.Prelude.{◌≡◌};
 ghost use Rattle.bitset.specs.Decides.{Decides};
-ghost use Rattle.network.specs.Record.{fault_of};
 ghost use Rattle.graph.specs.CutTests.{severed, Settled};
 
 use adjacency::fill;
 use edge_set::EdgeSet;
-use network::Network;
+use network::Accepted;
 use node_set::{NODES, NodeSet, NodeWord};
+use sets::BitSet;
 use spread::reach;
 
 // Whether without the edges of the set the source does not reach the sink.
-pub fn severed(network: Network, set: EdgeSet) -> bool
-    requires { fault_of network ≡ 0 }
-    ensures { result ≡ severed network set.0 }
+pub fn severed(accepted: Accepted, set: EdgeSet) -> bool
+    ensures { result ≡ severed accepted.network set.0 }
 {
+    let network = accepted.network;
     let present = network.present;
     let edges = present.difference(set);
     let mut adjacent: [NodeWord; NODES] = [0; NODES];
-    fill(&mut adjacent, network, edges);
+    fill(&mut adjacent, accepted, edges);
     let all = NodeSet::below(network.nodes as u32);
     let start = NodeSet::single(network.source as u32);
     let reached = reach(&adjacent, all, start);

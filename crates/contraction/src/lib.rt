@@ -8,31 +8,26 @@ ghost use Rattle.contraction.specs.Contracted.{Moved, Contracted};
 use edge_set::EdgeSet;
 use network::Network;
 use node_set::NodeSet;
+use sets::BitSet;
 
 // Whether an end lies at one of the nodes.
 fn lies_at(nodes: NodeSet, end: u8) -> bool
     ensures { result ≡ has nodes.0 end }
 {
-    nodes.contains(end as u32)
+    nodes.contains(u32::from(end))
 }
 
 // One end of each edge, where those of the edges given that lie at one of the nodes are moved to the node `to`.
-fn moved(edges: EdgeSet, nodes: NodeSet, to: u8, ends: [u8; 64]) -> [u8; 64]
+fn moved(edges: EdgeSet, nodes: NodeSet, to: u8, mut ends: [u8; 64]) -> [u8; 64]
     ensures { Moved edges.0 nodes.0 to ends result }
 {
-    let mut now = ends;
-    let mut left = edges;
-    loop {
-        let k = left.lowest();
-        if 64 <= k {
-            return now;
-        }
+    for k in edges.members() {
         let at = k as usize;
-        if lies_at(nodes, now[at]) {
-            now[at] = to;
+        if lies_at(nodes, ends[at]) {
+            ends[at] = to;
         }
-        left = left.without_lowest();
     }
+    ends
 }
 
 // The network with the nodes made one, the lowest of them, which is its sink.
@@ -40,13 +35,12 @@ pub fn contracted(network: Network, nodes: NodeSet) -> Network
     ensures { Contracted network nodes.0 result }
 {
     let sink = nodes.lowest() as u8;
-    let first = network.first;
-    let second = network.second;
-    let firsts = moved(network.present, nodes, sink, first);
-    let seconds = moved(network.present, nodes, sink, second);
-    let mut one = network;
-    one.sink = sink;
-    one.first = firsts;
-    one.second = seconds;
-    one
+    let first = moved(network.present, nodes, sink, network.first);
+    let second = moved(network.present, nodes, sink, network.second);
+    Network {
+        sink,
+        first,
+        second,
+        ..network
+    }
 }

@@ -1,5 +1,6 @@
 -- Demand 1: every call ends with the complete result or with the named refusal that its own condition calls for.
 -- Assumes what the code's types say of the records.
+use Rattle.std.specs.Prelude.{Result, Ok, Err}
 use mathlib.Core.Path.{◌≡◌, refl, sym, ap, subst, ◌∙◌}
 use mathlib.Core.Bool.{Bool, true, false}
 use mathlib.Core.List.{List}
@@ -20,7 +21,7 @@ use Rattle.network.specs.Rules.{Rules, RowsPresent}
 use Rattle.network.proofs.Refusals.{none_then, some_then, some-when, none-when, refused_none, refused-some}
 use Rattle.network.proofs.Rules.{fault-rules}
 use Rattle.network.proofs.Sets.{set-record, set-absent, set-none, rows-record, rows-absent, rows_none, rows_ok}
-use Rattle.format.specs.declared.Encoded.{Encoded}
+use Rattle.format.specs.Format.{Encoded}
 use Rattle.format.specs.Format.{Bytes, accept, refuse, decode_of, encode_of, encode_refusal, encoded_by, bytes_after}
 use Rattle.format.proofs.Reading.{accepts, decode-plan, decode-answer}
 use Rattle.format.proofs.Writing.{encode-decode}
@@ -30,8 +31,8 @@ use Rattle.graph.specs.Relevant.{relevant_nodes, relevant_edges, trimmed, source
 use Rattle.graph.proofs.Sound.{Sound, accepted-sound}
 use Rattle.graph.proofs.Relevant.{in-relevant_nodes, in-relevant_edges}
 use Rattle.graph.proofs.Trimmed.{trimmed-iff, untrimmed-iff}
-use Rattle.connectivity.specs.declared.Verdict.{Verdict}
-use Rattle.connectivity.specs.declared.Verdict.TheVariants.{NotCut, NotMinimal, Minimal, Refused}
+use Rattle.connectivity.specs.declared.judging.Verdict.{Verdict}
+use Rattle.connectivity.specs.declared.judging.Verdict.TheVariants.{NotCut, NotMinimal, Minimal}
 use Rattle.connectivity.specs.Answers.{relevant_of, verdict_of, Says, numbers_of}
 use Rattle.connectivity.proofs.Answers.{part-refused, part-accepted, verdict-refused, verdict-right}
 use Rattle.lengths.specs.Lengths.{total_of}
@@ -40,7 +41,7 @@ use Rattle.widths.specs.Widths.{widths_of}
 use Rattle.widths.proofs.Answers.{widths-refused, widths-given}
 use Rattle.trimmed.specs.Trimmed.{trimmed_fault}
 use Rattle.trimmed.proofs.Faults.{trimmed-faulty, trimmed-refused, trimmed-none}
-use Rattle.listing.specs.declared.Listed.{Listed}
+use Rattle.listing.specs.List.{Listed}
 use Rattle.listing.specs.List.{mincuts, source_sides, listed_by, cut_rows_after, side_rows_after}
 use Rattle.listing.specs.Trimmed.{trimmed_listed_by, trimmed_cut_rows, trimmed_side_rows}
 use Rattle.listing.proofs.Refusals.{Case, faulty, unpaired, outnumbered, complete, call-case, refusal-none}
@@ -48,18 +49,18 @@ use Rattle.listing.proofs.Call.{Answered, answered-faulty, answered-unpaired, an
 use Rattle.listing.proofs.Meaning.{mincuts-complete, outnumber-iff, call-complete, call-outnumbered}
 use Rattle.listing.proofs.Rows.{mincuts-count}
 use Rattle.listing.proofs.Trimmed.{TrimmedAnswered, trimmed-answered-refused, trimmed-answered}
-use Rattle.replay.specs.declared.Replayed.{Replayed}
+use Rattle.replay.specs.Replay.{Replayed}
 use Rattle.replay.specs.Log.{event_count}
 use Rattle.replay.specs.Replay.{replay_refusal, replayed_by, silent_after}
 use Rattle.replay.proofs.Events.{LogCase, good, unknown, absent, half, log-case}
 use Rattle.replay.proofs.Meaning.{Answered as Played, replay-refused, replay-played, refusal-faulty, refusal-short, refusal-log, replay-means}
-use Rattle.maintenance.specs.declared.Outage.{Outage}
+use Rattle.maintenance.specs.Outage.{Outage}
 use Rattle.windows.specs.Windows.{opening_count, works_count, Openings}
 use Rattle.maintenance.specs.Outage.{too_many, outage_refusal, outage_of}
 use Rattle.windows.proofs.Windows.{WorksCase, openings-case, works-case}
 use Rattle.maintenance.proofs.Meaning.{few, outage-refused, outage-counted, outage-none, outage-means, refusal-many, refusal-openings, refusal-works}
 use Rattle.maintenance.proofs.Meaning as outages
-use Rattle.simulation.specs.declared.Simulated.{Simulated}
+use Rattle.simulation.specs.Simulation.{Tallied}
 use Rattle.simulation.specs.Steps.{state_after}
 use Rattle.simulation.specs.Simulation.{silent_steps, simulated_by}
 use Rattle.simulation.proofs.Meaning as drills
@@ -108,7 +109,7 @@ part N stored = go (ℕ_discrete (fault_of N) 0)
         let S = accepted-sound N stored ok in
         subst (PartEnds N) (part-accepted N (relevant_nodes N) (relevant_edges N) ok refl refl)
         (PartEnds.found (rules N ok) (relevant_nodes N) (relevant_edges N) (in-relevant_nodes N S) (in-relevant_edges N S))
-    go (no f) = subst (PartEnds N) (part-refused N (fault_of N) 0 0 refl f refl refl) (PartEnds.faulty (some f))
+    go (no f) = subst (PartEnds N) (part-refused N (fault_of N) refl f) (PartEnds.faulty (some f))
 
 -- ---- judging
 
@@ -116,11 +117,11 @@ judging : (N : Network) → Stored N → (c : ℕ) → JudgingEnds N c (verdict_
 judging N stored c = go (ℕ_discrete (fault_of N) 0) (ℕ_discrete (bit_and c (present N)) c)
   where
     -- A verdict that says something true of a set that is not refused is none of the refusals.
-    unrefused : fault_of N ≡ 0 → c ⊆ present N → (v : Verdict) → Says N c v → (numbers_of v).refusal ≡ 0
-    unrefused ok within NotCut s = refl
-    unrefused ok within NotMinimal s = refl
-    unrefused ok within Minimal s = refl
-    unrefused ok within (Refused r) s = absurd (omega (arith, set-none N c ok within, s.0, s.1))
+    unrefused : fault_of N ≡ 0 → c ⊆ present N → (v : Result Verdict ℕ) → Says N c v → (numbers_of v).refusal ≡ 0
+    unrefused ok within (Ok NotCut) s = refl
+    unrefused ok within (Ok NotMinimal) s = refl
+    unrefused ok within (Ok Minimal) s = refl
+    unrefused ok within (Err r) s = absurd (omega (arith, set-none N c ok within, s.0, s.1))
 
     go : Dec (fault_of N ≡ 0) → Dec (bit_and c (present N) ≡ c) → JudgingEnds N c (verdict_of N c)
     go (no f) d = subst (JudgingEnds N c) (verdict-refused N c (fault_of N) (set-record N c (fault_of N) refl f) f) (JudgingEnds.faulty (some f))
@@ -306,7 +307,7 @@ module _ (N : Network) (stored : Stored N) (o w : List ℕ) where
 
 module _ (N : Network) (stored : Stored N) (n f r steps : ℕ) where
   -- What ends so is what the call answers.
-  drill-ended : {a : Simulated} → a ≡ simulated_by N n f r steps → SimulationEnds N n f r steps a → SimulationEnds N n f r steps (simulated_by N n f r steps)
+  drill-ended : {a : Tallied} → a ≡ simulated_by N n f r steps → SimulationEnds N n f r steps a → SimulationEnds N n f r steps (simulated_by N n f r steps)
   drill-ended a e = subst (SimulationEnds N n f r steps) a e
 
   simulation : SimulationEnds N n f r steps (simulated_by N n f r steps)
@@ -320,7 +321,7 @@ module _ (N : Network) (stored : Stored N) (n f r steps : ℕ) where
           (SimulationEnds.many (rules N ok) h)
       go (yes ok) (no h) =
           let fits : steps ≤ 65535 = omega arith in
-          let counted : Simulated = record { refusal = 0; silent = silent_steps N n f r steps; number = (state_after (present N) n f r steps).number } in
+          let counted : Tallied = record { refusal = 0; silent = silent_steps N n f r steps; number = (state_after (present N) n f r steps).number } in
           let answer = drills.simulation-run N n f r steps counted (drills.refusal-none N steps ok fits) refl refl refl in
           let means = (drills.simulation-means N stored n f r steps answer).1 in
           drill-ended answer (SimulationEnds.counted _ (rules N ok) fits (means.cut refl))

@@ -18,7 +18,7 @@ use Rattle.network.specs.declared.Network.{Network}
 use Rattle.network.specs.Record.{◌then◌, Stored, size_fault, terminal_fault, slots_fault, fault_up_to, fault_of}
 use Rattle.network.proofs.Refusals.{then-none, none_then, some_then, then-kept, some-when, none-when, size_none, refused-some}
 use Rattle.network.proofs.Rules.{none-size}
-use Rattle.format.specs.declared.Decoded.{Decoded}
+use Rattle.format.specs.Format.{Decoded}
 use Rattle.format.specs.Format.{at, missing, unfit, size_refusal, size_step, refuse, if_taken, decode_up_to, decode_of}
 use Rattle.format.proofs.Steps.{SizeView, size, size-view}
 use Rattle.format.proofs.Reading.{accepts, decode-plan}

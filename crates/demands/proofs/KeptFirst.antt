@@ -7,7 +7,7 @@ use native.Mathlib.Omega.{arith}
 use Rattle.node_set.specs.Width.{node_width}
 use Rattle.network.specs.declared.Network.{Network}
 use Rattle.network.specs.Record.{fault_of}
-use Rattle.format.specs.declared.Decoded.{Decoded}
+use Rattle.format.specs.Format.{Decoded}
 use Rattle.format.specs.Format.{decode_of, decode_up_to}
 use Rattle.demands.specs.Kept.{Unmeasured, fault_with_ten, decode_unmeasured, decode_with_ten, FirstKept}
 use Rattle.demands.proofs.Kept.{points_kept}

@@ -15,8 +15,8 @@ use Rattle.network.specs.declared.Network.{Network}
 use Rattle.network.specs.Record.{◌when◌, end_fault, absent_fault, slots, Slot, has_edge, first_end, second_end, metres_of, slot_fault, bare, with_edge, Stored}
 use Rattle.network.proofs.Refusals.{refused-some}
 use Rattle.network.proofs.Slots.{with_edge-stored, with_edge-slots}
-use Rattle.format.specs.declared.Decoded.{Decoded}
-use Rattle.format.specs.declared.Step.{Step}
+use Rattle.format.specs.Format.{Decoded}
+use Rattle.format.specs.Format.{Outcome}
 use Rattle.format.specs.Format.{at, edge_step, length_size, accept, refuse, if_taken, edges, edge_command, encode_of, decode_up_to}
 use Rattle.format.proofs.Commands.{length-absent}
 use Rattle.format.proofs.Steps.{edge-unfit, EdgeView, edge, end, edge_view, LengthView, measured, unmeasured, length-view}
@@ -53,16 +53,16 @@ unmeasured-bytes N none =
 
 -- A turn of the walk without lengths.
 module _ (turns : ℕ) (N : Network) (next : ℕ) (s : List ℕ) where
-  pub old-edge : {k a b : ℕ} → edge_step N.nodes next s ≡ Step.Edge k a b
+  pub old-edge : {k a b : ℕ} → edge_step N.nodes next s ≡ Outcome.Edge k a b
       → edges_unmeasured (suc turns) N next s ≡ edges_unmeasured turns (with_edge N k a b 0) (suc k) (drop 4 s)
   unfolding edges_unmeasured if_taken
   old-edge e = rw e
 
-  pub old-end : edge_step N.nodes next s ≡ Step.End → edges_unmeasured (suc turns) N next s ≡ accept N
+  pub old-end : edge_step N.nodes next s ≡ Outcome.End → edges_unmeasured (suc turns) N next s ≡ accept N
   unfolding edges_unmeasured if_taken
   old-end e = rw e
 
-  pub old-refused : {r : ℕ} → edge_step N.nodes next s ≡ Step.Refused r → 0 < r → edges_unmeasured (suc turns) N next s ≡ refuse r
+  pub old-refused : {r : ℕ} → edge_step N.nodes next s ≡ Outcome.Refused r → 0 < r → edges_unmeasured (suc turns) N next s ≡ refuse r
   unfolding edges_unmeasured if_taken
   old-refused {r} e p = rw e (refused-some r _ (refuse r) (λ z. omega arith))
 

@@ -18,8 +18,8 @@ use Rattle.network.specs.Record.{◌when◌, ◌then◌, unless_refused, size_fa
 use Rattle.network.specs.Ends.{Loop, Loopless}
 use Rattle.network.proofs.Refusals.{then-none, some_then, then-kept, when-none, none-when, some-when, refused-some, row-none}
 use Rattle.network.proofs.Slots.{with_edge-stored, with_edge-slots}
-use Rattle.format.specs.declared.Decoded.{Decoded}
-use Rattle.format.specs.declared.Step.{Step}
+use Rattle.format.specs.Format.{Decoded}
+use Rattle.format.specs.Format.{Outcome}
 use Rattle.format.specs.Format.{edge_step, accept, refuse, if_taken, edges}
 use Rattle.format.proofs.Steps.{EdgeView, edge, end, edge_view}
 use Rattle.format.proofs.Reading.{edge_kept, bare-stored}
@@ -101,16 +101,16 @@ accepted most N stored = (
 
 -- A turn of the walk with the rule 10.
 module _ (turns : ℕ) (N : Network) (next : ℕ) (s : List ℕ) where
-  ten-edge : {k a b : ℕ} → edge_step N.nodes next s ≡ Step.Edge k a b
+  ten-edge : {k a b : ℕ} → edge_step N.nodes next s ≡ Outcome.Edge k a b
       → edges_with_ten (suc turns) N next s ≡ unless_refused (loop_fault a b) (edges_with_ten turns (with_edge N k a b 0) (suc k) (drop 4 s)) (refuse 10)
   unfolding edges_with_ten if_taken
   ten-edge e = rw e
 
-  ten-end : edge_step N.nodes next s ≡ Step.End → edges_with_ten (suc turns) N next s ≡ accept N
+  ten-end : edge_step N.nodes next s ≡ Outcome.End → edges_with_ten (suc turns) N next s ≡ accept N
   unfolding edges_with_ten if_taken
   ten-end e = rw e
 
-  ten-refused : {r : ℕ} → edge_step N.nodes next s ≡ Step.Refused r → 0 < r → edges_with_ten (suc turns) N next s ≡ refuse r
+  ten-refused : {r : ℕ} → edge_step N.nodes next s ≡ Outcome.Refused r → 0 < r → edges_with_ten (suc turns) N next s ≡ refuse r
   unfolding edges_with_ten if_taken
   ten-refused {r} e p = rw e (refused-some r _ (refuse r) (λ z. omega arith))
 

@@ -21,7 +21,7 @@ use Rattle.network.proofs.Refusals.{none_then, some_then, some-when, none-when}
 use Rattle.network.proofs.Rules.{none-size, none-outside}
 use Rattle.network.proofs.Numbers.{not-fault}
 use Rattle.network.proofs.Sets.{set-absent}
-use Rattle.format.specs.declared.Step.{Step}
+use Rattle.format.specs.Format.{Outcome}
 use Rattle.format.specs.Format.{at, metres_in, length_fault, length_refusal, answer, edge_step, length_step, length_size, refuse, walk, decode_up_to}
 use Rattle.format.proofs.Steps.{none-missing, size-taken, edge-taken, end_refused, size-unfit, terminals-unfit, edge-unfit}
 use Rattle.format.proofs.Walk.{refusal-decides, size-goes, edges-length-refused, edges-refused, walk-edge}
@@ -32,7 +32,7 @@ use Rattle.graph.proofs.Agree.{Agree, minpaths-agree, without-agree, side-agree}
 use Rattle.connectivity.specs.Answers.{verdict_of}
 use Rattle.connectivity.proofs.Answers.{verdict-refused}
 use Rattle.widths.specs.Widths.{pairs_of, width_of, width_table, widths_of}
-use Rattle.listing.specs.declared.Listed.{Listed}
+use Rattle.listing.specs.List.{Listed}
 use Rattle.listing.specs.List.{listed_by, cut_rows_after}
 use Rattle.listing.specs.Trimmed.{trimmed_listed_by, trimmed_cut_rows, trimmed_side_rows}
 use Rattle.listing.proofs.Agree.{trimmed-call-agrees}
@@ -49,20 +49,20 @@ use Rattle.demands.proofs.Alike.{alike}
 -- ---- in bytes
 
 module _ (N : Network) (next k a b : ℕ) (s : List ℕ) (fits : EdgeFits N next k a b) where
-  edge-step : edge_step N.nodes next (0x43 ∷ k ∷ a ∷ b ∷ s) ≡ Step.Edge k a b
+  edge-step : edge_step N.nodes next (0x43 ∷ k ∷ a ∷ b ∷ s) ≡ Outcome.Edge k a b
   edge-step =
       edge-taken N.nodes next k a b s fits.number.0 fits.number.1 (none-outside 9 N.nodes a b fits.ends.0 fits.ends.1)
 
   -- By the answer to what stands after the edge.
-  goes : (m : ℕ) → length_step k s ≡ Step.Length m → walk N next (0x43 ∷ k ∷ a ∷ b ∷ s) ≡ walk (with_edge N k a b m) (suc k) (drop (length_size m) s)
+  goes : (m : ℕ) → length_step k s ≡ Outcome.Length m → walk N next (0x43 ∷ k ∷ a ∷ b ∷ s) ≡ walk (with_edge N k a b m) (suc k) (drop (length_size m) s)
   goes m e = walk-edge N next (0x43 ∷ k ∷ a ∷ b ∷ s) edge-step e
 
-  stops : (r : ℕ) → 0 < r → length_step k s ≡ Step.Refused r → walk N next (0x43 ∷ k ∷ a ∷ b ∷ s) ≡ refuse r
+  stops : (r : ℕ) → 0 < r → length_step k s ≡ Outcome.Refused r → walk N next (0x43 ∷ k ∷ a ∷ b ∷ s) ≡ refuse r
   stops r p e = edges-length-refused (suc (suc (suc (length s)))) N next (0x43 ∷ k ∷ a ∷ b ∷ s) edge-step e p
 
 -- The answer at a length's command.
 module _ (k : ℕ) (s : List ℕ) (e : at s 0 ≡ 0x4D) where
-  by-refusal : (r : ℕ) → length_refusal k s ≡ r → length_step k s ≡ answer r (Step.Length (metres_in s))
+  by-refusal : (r : ℕ) → length_refusal k s ≡ r → length_step k s ≡ answer r (Outcome.Length (metres_in s))
   unfolding length_step
   by-refusal r f = rw (eq-eqb (at s 0) 0x4D e, f)
 
@@ -95,7 +95,7 @@ unfolding length_size
 four_bytes m p = rw (ne_eqb m 0 (λ z. omega arith))
 
 -- Without a length nothing is taken.
-not-measured : (k : ℕ) (s : List ℕ) → (at s 0 ≡ 0x4D → ⊥) → (length_step k s ≡ Step.Length 0) × (drop (length_size 0) s ≡ s)
+not-measured : (k : ℕ) (s : List ℕ) → (at s 0 ≡ 0x4D → ⊥) → (length_step k s ≡ Outcome.Length 0) × (drop (length_size 0) s ≡ s)
 unfolding length_step length_size
 not-measured k s d = (rw (ne_eqb (at s 0) 0x4D d), refl)
 

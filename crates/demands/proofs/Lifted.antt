@@ -12,8 +12,8 @@ use native.Mathlib.Omega.{arith}
 use lib.ListN.{length, drop}
 use Rattle.network.specs.declared.Network.{Network}
 use Rattle.network.specs.Record.{◌then◌, unless_refused, size_fault, terminal_fault, slots, slot_fault, slots_fault, fault_up_to, bare}
-use Rattle.format.specs.declared.Decoded.{Decoded}
-use Rattle.format.specs.declared.Step.{Step}
+use Rattle.format.specs.Format.{Decoded}
+use Rattle.format.specs.Format.{Outcome}
 use Rattle.format.specs.Format.{at, size_step, terminals_step, told, accept, refuse, if_taken, edges, decode_up_to}
 use Rattle.demands.specs.Kept.{test_by, decode_by}
 
@@ -52,7 +52,7 @@ module _ {r : ℕ} {W : Type 0} {P : Network → Type 0} where
   accepted-same N p = same refl (λ e. p)
 
   -- A command before, whatever it answers, changes nothing in that.
-  taken-lifted : (t : Step) (f g : List ℕ → Decoded) → ((v : List ℕ) → Lifted r W P (f v) (g v)) → Lifted r W P (if_taken t f) (if_taken t g)
+  taken-lifted : (t : Outcome) (f g : List ℕ → Decoded) → ((v : List ℕ) → Lifted r W P (f v) (g v)) → Lifted r W P (if_taken t f) (if_taken t g)
   unfolding if_taken
   taken-lifted t f g on = go (told t).number
     where

@@ -1,5 +1,6 @@
 -- Loops: they lie on no route and in no minimal cut, to add one changes no list, and none is refused.
 -- Assumes what the code's types say of the records.
+use Rattle.std.specs.Prelude.{Err}
 use mathlib.Core.Path.{◌≡◌, refl, sym, ap, subst, ◌∙◌}
 use mathlib.Core.Bool.{Bool, true, false, not}
 use mathlib.Core.List.{List}
@@ -27,7 +28,6 @@ use Rattle.format.proofs.Writing.{encode-decode}
 use Rattle.graph.specs.Paths.{Joins}
 use Rattle.graph.proofs.Loops.{loop-minpath, loop-mincut, loop-relevant}
 use Rattle.graph.proofs.Agree.{Agree}
-use Rattle.connectivity.specs.declared.Verdict.TheVariants.{Refused}
 use Rattle.connectivity.specs.Answers.{relevant_of, verdict_of, Says}
 use Rattle.connectivity.proofs.Answers.{part-refusal, verdict-right}
 use Rattle.lengths.specs.Lengths.{total_of}
@@ -136,8 +136,8 @@ rows : (N : Network) (cuts : List ℕ) → rows_fault N cuts ≡ 10 → ⊥
 unfolding rows_fault
 rows N cuts = edges N _
 
-judging : (N : Network) → Stored N → (c : ℕ) → verdict_of N c ≡ Refused 10 → ⊥
-judging N stored c e = let said : Says N c (Refused 10) = subst (Says N c) e (verdict-right N stored c) in set N c said.0
+judging : (N : Network) → Stored N → (c : ℕ) → verdict_of N c ≡ Err 10 → ⊥
+judging N stored c e = let said : Says N c (Err 10) = subst (Says N c) e (verdict-right N stored c) in set N c said.0
 
 -- The lines of the reader's refusals are others: the tenth byte of each is another than that of 10, which is its second digit.
 other-lines : T (every (λ r. not (eqb (get_or (refusal_line r) 9 0) 48)) reader_refusals)

@@ -26,7 +26,7 @@ use Rattle.graph.specs.Paths.{Joins, Minpath}
 use Rattle.graph.specs.Cuts.{Cut}
 use Rattle.graph.specs.Lists.{SameList}
 use Rattle.graph.proofs.Cuts.{silenced-mono, mincut-none}
-use Rattle.listing.specs.declared.Listed.{Listed}
+use Rattle.listing.specs.List.{Listed}
 use Rattle.listing.specs.List.{mincuts, listed_by, cut_rows_after}
 use Rattle.listing.proofs.Call.{complete-call}
 use Rattle.rooms.specs.declared.Extent.{Extent}

@@ -21,7 +21,7 @@
 --   WriterEnds N lent e after        writing N into a buffer that held `lent` gives e and leaves `after`
 --   ReportEnds s t                   for the input s the list program prints t
 use mathlib.Core.List.{List, Memᴰ}
-use Rattle.std.specs.Prelude.{◌⊎◌, ◌↔◌, ◌≡◌, ℕ, suc, ◌%◌, ◌≤◌, ◌<◌, T, length, get_or, drop, replicate}
+use Rattle.std.specs.Prelude.{◌⊎◌, ◌↔◌, ◌≡◌, ℕ, suc, ◌%◌, ◌≤◌, ◌<◌, T, length, get_or, drop, replicate, Result, Err}
 use Rattle.sequences.specs.Distinct.{More}
 use Rattle.sequences.specs.Rising.{RisingRows}
 use Rattle.sequences.specs.Words.{onto}
@@ -30,30 +30,30 @@ use Rattle.bitset.specs.Members.{◌∈◌, ◌⊆◌}
 use Rattle.network.specs.declared.Network.{Network}
 use Rattle.network.specs.Record.{among, Stored, fault_of, present}
 use Rattle.network.specs.Rules.{Rules, RowsPresent}
-use Rattle.format.specs.declared.Decoded.{Decoded}
-use Rattle.format.specs.declared.Encoded.{Encoded}
+use Rattle.format.specs.Format.{Decoded}
+use Rattle.format.specs.Format.{Encoded}
 use Rattle.format.specs.Format.{reader_refusals, accept, refuse, decode_of, encode_of}
 use Rattle.graph.specs.Cuts.{HoldsMincut, RelevantEdge, RelevantNode, Trimmed, Untrimmed}
 use Rattle.graph.specs.Lists.{CompleteList, Outnumber}
-use Rattle.connectivity.specs.declared.RelevantPart.{RelevantPart}
-use Rattle.connectivity.specs.declared.Verdict.{Verdict}
+use Rattle.connectivity.specs.Answers.{FoundPart}
+use Rattle.connectivity.specs.declared.judging.Verdict.{Verdict}
 use Rattle.connectivity.specs.Answers.{part_from, Says, numbers_of}
-use Rattle.lengths.specs.declared.Measured.{Measured}
+use Rattle.lengths.specs.Lengths.{Measured}
 use Rattle.lengths.specs.Lengths.{total_metres}
-use Rattle.widths.specs.declared.Widths.{Widths}
+use Rattle.widths.specs.Widths.{Widths}
 use Rattle.widths.specs.Widths.{width_table}
-use Rattle.listing.specs.declared.Listed.{Listed}
+use Rattle.listing.specs.List.{Listed}
 use Rattle.rooms.specs.declared.Extent.{Extent}
 use Rattle.rooms.specs.Silences.{Silences, Package}
 use Rattle.rooms.specs.Rooms.{needs}
-use Rattle.replay.specs.declared.Replayed.{Replayed}
+use Rattle.replay.specs.Replay.{Replayed}
 use Rattle.replay.specs.Log.{event_count, edge_at, down_after, Command, GoodEvents, LogRules}
 use Rattle.replay.specs.Replay.{Tells}
-use Rattle.maintenance.specs.declared.Outage.{Outage}
+use Rattle.maintenance.specs.Outage.{Outage}
 use Rattle.sequences.specs.Counts.{Exactly}
 use Rattle.windows.specs.Windows.{week, is_open, out_at, opening_count, works_count, Openings, BadWindow, AbsentEdge}
 use Rattle.maintenance.specs.Outage.{WindowRules}
-use Rattle.simulation.specs.declared.Simulated.{Simulated}
+use Rattle.simulation.specs.Simulation.{Tallied}
 use Rattle.simulation.specs.Steps.{state_after}
 use Rattle.simulation.specs.Simulation.{StepsWhere}
 use Rattle.text.specs.Text.{refusal_line, list_text, max_rows}
@@ -64,15 +64,15 @@ pub data ReaderEnds (s : List ℕ) : Decoded → Type 0 where
   refused : (r : ℕ) → 0 < r → T (among reader_refusals r) → ((N : Network) → Stored N → Rules N → encode_of N ≡ s → ⊥) → ReaderEnds s (refuse r)
 
 -- Two sets that hold exactly the relevant nodes and edges; on refusal both empty.
-pub data PartEnds (N : Network) : RelevantPart → Type 0 where
+pub data PartEnds (N : Network) : FoundPart → Type 0 where
   found : Rules N → (n e : ℕ) → ((v : ℕ) → (v ∈ n) ↔ RelevantNode N v) → ((k : ℕ) → (k ∈ e) ↔ RelevantEdge N k) → PartEnds N (part_from 0 n e)
   faulty : 0 < fault_of N → PartEnds N (part_from (fault_of N) 0 0)
 
 -- A verdict that is true; 14 for an edge that is not present.
-pub data JudgingEnds (N : Network) (c : ℕ) : Verdict → Type 0 where
-  judged : (v : Verdict) → Rules N → c ⊆ present N → (numbers_of v).refusal ≡ 0 → Says N c v → JudgingEnds N c v
-  faulty : 0 < fault_of N → JudgingEnds N c (Verdict.Refused (fault_of N))
-  absent : Rules N → (c ⊆ present N → ⊥) → JudgingEnds N c (Verdict.Refused 14)
+pub data JudgingEnds (N : Network) (c : ℕ) : Result Verdict ℕ → Type 0 where
+  judged : (v : Result Verdict ℕ) → Rules N → c ⊆ present N → (numbers_of v).refusal ≡ 0 → Says N c v → JudgingEnds N c v
+  faulty : 0 < fault_of N → JudgingEnds N c (Err (fault_of N))
+  absent : Rules N → (c ⊆ present N → ⊥) → JudgingEnds N c (Err 14)
 
 -- The sum of the metres; 14 for an edge that is not present. On refusal it is 0.
 pub data TotalEnds (N : Network) (c : ℕ) : Measured → Type 0 where
@@ -148,7 +148,7 @@ pub data OutageEnds (N : Network) (o w : List ℕ) : Outage → Type 0 where
       → OutageEnds N o w (record { refusal = 17; minutes = 0 })
 
 -- The steps that end with a minimal cut wholly down, and the last number; 25 for too many steps. On refusal both are 0.
-pub data SimulationEnds (N : Network) (n f r steps : ℕ) : Simulated → Type 0 where
+pub data SimulationEnds (N : Network) (n f r steps : ℕ) : Tallied → Type 0 where
   counted : (k : ℕ) → Rules N → steps ≤ 65535 → StepsWhere N n f r steps (HoldsMincut N) k
       → SimulationEnds N n f r steps (record { refusal = 0; silent = k; number = (state_after (present N) n f r steps).number })
   faulty : 0 < fault_of N → SimulationEnds N n f r steps (record { refusal = fault_of N; silent = 0; number = 0 })

@@ -37,7 +37,7 @@ use Rattle.sequences.specs.Words.{onto}
 use Rattle.network.specs.declared.Network.{Network}
 use Rattle.network.specs.Record.{◌when◌, ◌then◌, unless_refused, size_fault, terminal_fault, end_fault, slots, has_edge, first_end, second_end, metres_of, fault_up_to, fault_of, bare, with_edge, Stored}
 use Rattle.network.specs.Ends.{Loopless}
-use Rattle.format.specs.declared.Decoded.{Decoded}
+use Rattle.format.specs.Format.{Decoded}
 use Rattle.format.specs.Format.{at, size_step, terminals_step, edge_step, accept, refuse, if_taken, decode_up_to, decode_of, encode_of}
 use Rattle.graph.specs.Lists.{CompleteList, SameList}
 use Rattle.connectivity.specs.Answers.{relevant_of}

@@ -5,7 +5,7 @@
 --   AsWithout N k v m    N with the loop k at v, m metres long, is accepted, as a record and in bytes, and is answered as N is
 --   LoopAdded            so it is for every accepted record, free number and point, and any length
 --   TenGone              no call gives the refusal 10, which was that of a loop, and the program does not print it
-use Rattle.std.specs.Prelude.{List, ◌≡◌, ℕ, ◌^◌, ◌<◌}
+use Rattle.std.specs.Prelude.{List, ◌≡◌, ℕ, ◌^◌, ◌<◌, Err}
 use Rattle.bitset.specs.Members.{◌∈◌}
 use Rattle.network.specs.declared.Network.{Network}
 use Rattle.network.specs.Record.{Stored, fault_of, with_edge, present}
@@ -13,7 +13,6 @@ use Rattle.network.specs.Ends.{ends_of, Loop}
 use Rattle.format.specs.Format.{accept, decode_of, encode_of, encoded_by}
 use Rattle.graph.specs.Paths.{Minpath}
 use Rattle.graph.specs.Cuts.{Mincut, RelevantEdge}
-use Rattle.connectivity.specs.declared.Verdict.TheVariants.{Refused}
 use Rattle.connectivity.specs.Answers.{relevant_of, verdict_of}
 use Rattle.lengths.specs.Lengths.{total_of}
 use Rattle.widths.specs.Widths.{widths_of}
@@ -47,7 +46,7 @@ pub record TenGone : Type 0 where
   pub reader : (s : List ℕ) → (decode_of s).refusal ≡ 10 → ⊥
   pub test : (N : Network) → fault_of N ≡ 10 → ⊥
   pub part : (N : Network) → (relevant_of N).refusal ≡ 10 → ⊥
-  pub judging : (N : Network) → Stored N → (c : ℕ) → verdict_of N c ≡ Refused 10 → ⊥
+  pub judging : (N : Network) → Stored N → (c : ℕ) → verdict_of N c ≡ Err 10 → ⊥
   pub total : (N : Network) (c : ℕ) → (total_of N c).refusal ≡ 10 → ⊥
   pub widths : (N : Network) (cuts : List ℕ) → (widths_of N cuts).refusal ≡ 10 → ⊥
   pub list : (N : Network) (cuts sides : List ℕ) → (listed_by N cuts sides).refusal ≡ 10 → ⊥

@@ -29,9 +29,9 @@ use Rattle.enumeration.specs.Rows.{Fed, Put}
 
 module _ (N : Network) (S : Sound N) where
   -- The relevant edges are present.
-  pub relevant-present : relevant_edges N ⊆ present N
+  pub relevant-present : (s : ℕ) → s ≡ relevant_edges N → s ⊆ present N
   unfolding relevant_edges
-  relevant-present e m = ((in-edges_within N S.bounded (relevant_nodes N) e).0 m).0
+  relevant-present s all e m = ((in-edges_within N S.bounded (relevant_nodes N) e).0 (rw all at m)).0
 
   -- The source is relevant.
   source-relevant : N.source ∈ relevant_nodes N

@@ -1,7 +1,7 @@
 -- The two halves of a branch as the code goes through them: what each step keeps, and what each way through puts.
 -- Assumes, where walks are spoken of, a network that keeps the bounds of edges and ends.
 use mathlib.Core.Path.{◌≡◌, refl, sym, ap, ◌∙◌}
-use mathlib.Core.Bool.{Bool, true, false, not, ◌&&◌, true≢false}
+use mathlib.Core.Bool.{Bool, true, false, ◌&&◌, true≢false}
 use mathlib.Core.List.{List, [], ◌∷◌}
 use mathlib.Core.Logic.{◌⊎◌, inl, inr}
 use Prim.Native.Nat.{ℕ, ◌^◌, ◌≤◌, ◌<◌}
@@ -26,9 +26,11 @@ use Rattle.branches.specs.Enumeration.{candidate, joined, left_out, is_open, Row
 use Rattle.branches.proofs.ReachIn.{reach_in-start, reach_in-⊆, reach_in-same}
 use Rattle.branches.proofs.Recursion.{candidate-in, rows-leaf, rows_split}
 use Rattle.adjacency.specs.Adjacency.{Adjacency}
-use Rattle.enumeration.specs.Tables.{Incidence}
+use Rattle.enumeration.specs.declared.rows.Rows.{Rows}
+use Rattle.enumeration.specs.declared.Tables.{Tables}
+use Rattle.enumeration.specs.Tables.{Incidence, TablesOf}
 use Rattle.parts.specs.Parts.{Hangs}
-use Rattle.enumeration.specs.Rows.{Fed, Whole, Capacity, Put}
+use Rattle.enumeration.specs.Rows.{Fed, Whole, Same, RowsPut, JoinedBranch}
 use Rattle.enumeration.proofs.Putting.{put-none, put_both}
 
 -- ---- a node joins
@@ -69,7 +71,7 @@ module _ (M : Network) (B : Bounded M) where
 
   module _ (b : Branch) (v : ℕ) (free : v ∈ b.undecided.0) (fed : Fed M b) where
     -- Without v the sink is still in the rest.
-    pub sink-left : M.sink ∈ (b.rest.0 ∖ 2 ^ v)
+    sink-left : M.sink ∈ (b.rest.0 ∖ 2 ^ v)
     sink-left = (in-drop b.rest.0 v M.sink).1 (fed.sink, λ e. fed.decided (rw e free))
 
     -- With v joined the sink is in the rest and is not undecided.
@@ -87,6 +89,11 @@ module _ (M : Network) (B : Bounded M) where
         let u : ℕ = b.rest.0 ∖ 2 ^ v in
         reach_in-same M B (reach_in M u M.sink) u M.sink (reach_in-start M B u M.sink sink-left)
         (reach_in-⊆ M B u M.sink sink-left) (⊆-refl (reach_in M u M.sink))
+
+-- Where the sink is in the rest, a branch that was made with v joined is the one.
+pub made-joined : (t : Tables) (b d : Branch) (v : ℕ) → v ∈ b.undecided.0 → JoinedBranch t b v d
+    → (M : Network) → TablesOf M t → Fed M b → Hangs M b.rest.0 v M.sink → d ≡ joined M b v
+made-joined t b d v free made M tables fed hangs = made M tables (sink-left M tables.bounded b v free fed) hangs
 
 -- Where the rest is what the sink reaches inside it, all of it hangs on the sink.
 pub whole-hangs : (M : Network) (b : Branch) (v : ℕ) → Whole M b → Hangs M b.rest.0 v M.sink
@@ -121,11 +128,6 @@ candidate-free b w low h = rw low (candidate-in b (rw low at h)).1
 
 -- ---- the ways through a half
 
--- A test whose negation is known.
-pub flip : (b : Bool) {a : Bool} → not b ≡ a → b ≡ not a
-flip true e = ap not e
-flip false e = ap not e
-
 -- Where a row is wanted and the other test holds,
 pub wanted-and : (n limit : ℕ) (h r : Bool) → r ≡ leb n limit && h → r ≡ true → (n ≤ limit) × (h ≡ true)
 wanted-and n limit h r e t = go (leb n limit) refl (sym e ∙ t)
@@ -152,20 +154,18 @@ pub leave-out-half : (M : Network) (b : Branch) (v : ℕ) (d : Branch) → d ≡
 leave-out-half M b v d e t f = ap (rows_if (has b.rest.0 v) M) (sym e) ∙ ap (λ (x : Bool). rows_if x M d) (sym f)
 
 -- The rows l of a half, which enters the branch d if the test t holds.
-module _ (M : Network) (l : List Row) (t : Bool) (d : Branch) (half : l ≡ rows_if t M d)
-    (n limit : ℕ) (cuts sides : List ℕ) (room : Capacity n limit cuts sides) where
+module _ (M : Network) (l : List Row) (t : Bool) (d : Branch) (half : l ≡ rows_if t M d) (r : Rows) where
   -- It is not entered.
-  pub shut-put : t ≡ false → Put l n limit cuts sides cuts sides n
-  shut-put e = rw (half, e) (put-none n limit cuts sides room)
+  pub shut-put : t ≡ false → RowsPut l r r
+  shut-put e = rw (half, e) (put-none r)
 
-  module _ (e : t ≡ true) (w : ℕ) (low : w ≡ candidate d) where
+  module _ (e : t ≡ true) where
     -- Without a candidate it has one row.
-    pub leaf-put : node_width ≤ w → (cuts' sides' : List ℕ) (r : ℕ) → Put (row_of d ∷ []) n limit cuts sides cuts' sides' r → Put l n limit cuts sides cuts' sides' r
-    leaf-put h cuts' sides' r p = rw (half, e, rows-leaf M d (rw low at h)) p
+    pub leaf-put : node_width ≤ candidate d → (r' : Rows) → RowsPut (row_of d ∷ []) r r' → RowsPut l r r'
+    leaf-put h r' p = rw (half, e, rows-leaf M d h) p
 
     -- With one it has the rows in which the candidate joins and those in which it is left out.
-    pub split-put : w < node_width → (m r : ℕ) (cuts' sides' cuts'' sides'' : List ℕ) → Put (join_rows M d w) n limit cuts sides cuts' sides' m
-        → Put (leave_out_rows M d w) m limit cuts' sides' cuts'' sides'' r → Put l n limit cuts sides cuts'' sides'' r
-    split-put h m r cuts' sides' cuts'' sides'' p q =
-        rw (half, e, rows_split M d (rw low at h), ← low)
-        (put_both n limit cuts sides room (join_rows M d w) (leave_out_rows M d w) m r cuts' sides' cuts'' sides'' p q)
+    pub split-put : (w : ℕ) → w ≡ candidate d → w < node_width → (r' r'' : Rows) → Same r r' → RowsPut (join_rows M d w) r r'
+        → RowsPut (leave_out_rows M d w) r' r'' → RowsPut l r r''
+    split-put w low h r' r'' same p q =
+        rw (half, e, rows_split M d (rw low at h), ← low) (put_both r (join_rows M d w) (leave_out_rows M d w) r' r'' same p q)

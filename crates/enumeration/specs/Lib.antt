@@ -1,3 +1,4 @@
 -- The definitions that the contracts of `enumeration` cite.
 pub mod Tables
+pub mod Capacity
 pub mod Rows

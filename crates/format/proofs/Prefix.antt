@@ -14,8 +14,7 @@ use borrow.Author.Tests.{lt-ltb, le-ltb}
 use Rattle.node_set.specs.Width.{node_width}
 use Rattle.network.specs.declared.Network.{Network}
 use Rattle.network.specs.Record.{with_edge, bare}
-use Rattle.format.specs.declared.Step.{Step}
-use Rattle.format.specs.Format.{at, size_refusal, terminals_refusal, edge_refusal, end_refusal, length_refusal, size_step, terminals_step, edge_step, length_step, length_size, if_taken, edges, walk, decode_up_to, decode_of}
+use Rattle.format.specs.Format.{Outcome, at, size_refusal, terminals_refusal, edge_refusal, end_refusal, length_refusal, size_step, terminals_step, edge_step, length_step, length_size, if_taken, edges, walk, decode_up_to, decode_of}
 use Rattle.format.proofs.Steps.{EdgeView, edge, end, edge_view, LengthView, measured, unmeasured, length-view}
 use Rattle.format.proofs.Walk.{edges-edge, edges-length-refused, edges-end, edges-refused, edges-turns}
 
@@ -115,7 +114,7 @@ edges-take (suc turns) N next m s h d =
         enough : 8 ≤ m
         enough = omega arith
 
-        on : (x : ℕ) → length_step k (drop 4 s) ≡ Step.Length x → edges (suc turns) N next (take m s) ≡ edges (suc turns) N next s
+        on : (x : ℕ) → length_step k (drop 4 s) ≡ Outcome.Length x → edges (suc turns) N next (take m s) ≡ edges (suc turns) N next s
         on x step' =
             edges-edge turns N next (take m s) (same ∙ step) (same_length enough k ∙ step')
             ∙ ap (λ y. edges turns (with_edge N k a b x) (suc k) (drop (length_size x) y)) (left enough)

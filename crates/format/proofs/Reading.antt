@@ -17,8 +17,7 @@ use Rattle.network.specs.declared.Network.{Network}
 use Rattle.network.specs.Record.{among, Stored, Slot, slot, slot_fault, end_fault, absent_fault, fault_of, bare, with_edge, has_edge, first_end, second_end, metres_of, no_network}
 use Rattle.network.proofs.Rules.{fault-rules}
 use Rattle.network.proofs.Slots.{empty, slot_fault-of, with_edge-same, with_edge-other, with_edge-stored, with_edge-faultless, accepted-none}
-use Rattle.format.specs.declared.Decoded.{Decoded}
-use Rattle.format.specs.Format.{reader_refusals, at, Bytes, accept, refuse, edges, decode_of, command_of, encode_of}
+use Rattle.format.specs.Format.{Decoded, reader_refusals, at, Bytes, accept, refuse, edges, decode_of, command_of, encode_of}
 use Rattle.format.specs.Meaning.{ReadMeans}
 use Rattle.format.proofs.Walk.{HeaderView, header, header-view, EdgeRead, TurnView, turn, last, turn-view, bytes_drop}
 use Rattle.format.proofs.Commands.{command-of, rest, rest-first, rest-skip, rest-none, encode-header, encode-size}

@@ -19,8 +19,7 @@ use lib.ListN.{length, drop}
 use borrow.Author.Tests.{lt-ltb, le-ltb, eq-eqb, ne_eqb, ltb-false, eqb-true, eqb-false, not-false}
 use Rattle.network.specs.Record.{among, ◌when◌, ◌then◌, size_fault, terminal_fault, end_fault}
 use Rattle.network.proofs.Refusals.{then-none, none_then, some_then, when-none, none-when, some-when, or-none, then-among, when-among, outside-among, terminals-among}
-use Rattle.format.specs.declared.Step.{Step}
-use Rattle.format.specs.Format.{reader_refusals, at, Bytes, missing, unfit, number_fault, size_refusal, terminals_refusal, edge_refusal, end_refusal, length_fault, metres_in, length_size, length_refusal, length_command, size_step, terminals_step, edge_step, length_step}
+use Rattle.format.specs.Format.{Outcome, reader_refusals, at, Bytes, missing, unfit, number_fault, size_refusal, terminals_refusal, edge_refusal, end_refusal, length_fault, metres_in, length_size, length_refusal, length_command, size_step, terminals_step, edge_step, length_step}
 
 -- ---- the rules that every command shares
 
@@ -78,8 +77,8 @@ two (c ∷ []) h = absurd (omega arith)
 two (c ∷ n ∷ s) h = refl
 
 pub data SizeView (most : ℕ) (s : List ℕ) : Type 0 where
-  size : (n : ℕ) (rest : List ℕ) → size_step most s ≡ Step.Size n → s ≡ 0x50 ∷ n ∷ rest → size_fault most n ≡ 0 → SizeView most s
-  refused : (r : ℕ) → size_step most s ≡ Step.Refused r → 0 < r → T (among reader_refusals r) → SizeView most s
+  size : (n : ℕ) (rest : List ℕ) → size_step most s ≡ Outcome.Size n → s ≡ 0x50 ∷ n ∷ rest → size_fault most n ≡ 0 → SizeView most s
+  refused : (r : ℕ) → size_step most s ≡ Outcome.Refused r → 0 < r → T (among reader_refusals r) → SizeView most s
 
 pub size-view : (most : ℕ) (s : List ℕ) → SizeView most s
 unfolding among size_step size_refusal size_fault
@@ -93,7 +92,7 @@ size-view most s = go (size_refusal most s) refl
         refused (suc r) (rw e) (omega arith)
         (rw e at (command-among 0x50 2 s (size_fault most (at s 1)) (when-among reader_refusals 4 _ tt)))
 
-pub size-taken : (most n : ℕ) (s : List ℕ) → size_fault most n ≡ 0 → size_step most (0x50 ∷ n ∷ s) ≡ Step.Size n
+pub size-taken : (most n : ℕ) (s : List ℕ) → size_fault most n ≡ 0 → size_step most (0x50 ∷ n ∷ s) ≡ Outcome.Size n
 unfolding size_step size_refusal
 size-taken most n s e = rw (command-values 0x50 2 (0x50 ∷ n ∷ s) (size_fault most n) refl (omega arith) (omega arith) ∙ e)
 
@@ -106,9 +105,9 @@ three (c ∷ a ∷ []) h = absurd (omega arith)
 three (c ∷ a ∷ b ∷ s) h = refl
 
 pub data TerminalsView (n : ℕ) (s : List ℕ) : Type 0 where
-  terminals : (a b : ℕ) (rest : List ℕ) → terminals_step n s ≡ Step.Terminals a b → s ≡ 0x53 ∷ a ∷ b ∷ rest
+  terminals : (a b : ℕ) (rest : List ℕ) → terminals_step n s ≡ Outcome.Terminals a b → s ≡ 0x53 ∷ a ∷ b ∷ rest
       → terminal_fault n a b ≡ 0 → TerminalsView n s
-  refused : (r : ℕ) → terminals_step n s ≡ Step.Refused r → 0 < r → T (among reader_refusals r) → TerminalsView n s
+  refused : (r : ℕ) → terminals_step n s ≡ Outcome.Refused r → 0 < r → T (among reader_refusals r) → TerminalsView n s
 
 pub terminals-view : (n : ℕ) (s : List ℕ) → TerminalsView n s
 unfolding among terminals_step terminals_refusal
@@ -124,7 +123,7 @@ terminals-view n s = go (terminals_refusal n s) refl
         (rw e at (command-among 0x53 3 s (terminal_fault n (at s 1) (at s 2)) (terminals-among reader_refusals n (at s 1) (at s 2) tt tt)))
 
 pub terminals-taken : (n a b : ℕ) (s : List ℕ) → terminal_fault n a b ≡ 0
-    → terminals_step n (0x53 ∷ a ∷ b ∷ s) ≡ Step.Terminals a b
+    → terminals_step n (0x53 ∷ a ∷ b ∷ s) ≡ Outcome.Terminals a b
 unfolding terminals_step terminals_refusal
 terminals-taken n a b s e =
     rw (command-values 0x53 3 (0x53 ∷ a ∷ b ∷ s) (terminal_fault n a b) refl (omega arith) (omega arith) ∙ e)
@@ -139,10 +138,10 @@ four (c ∷ k ∷ a ∷ []) h = absurd (omega arith)
 four (c ∷ k ∷ a ∷ b ∷ s) h = refl
 
 pub data EdgeView (n next : ℕ) (s : List ℕ) : Type 0 where
-  edge : (k a b : ℕ) (rest : List ℕ) → edge_step n next s ≡ Step.Edge k a b → s ≡ 0x43 ∷ k ∷ a ∷ b ∷ rest
+  edge : (k a b : ℕ) (rest : List ℕ) → edge_step n next s ≡ Outcome.Edge k a b → s ≡ 0x43 ∷ k ∷ a ∷ b ∷ rest
       → next ≤ k → k < 64 → end_fault n a b ≡ 0 → EdgeView n next s
-  end : edge_step n next s ≡ Step.End → s ≡ 0x45 ∷ [] → EdgeView n next s
-  refused : (r : ℕ) → edge_step n next s ≡ Step.Refused r → 0 < r → T (among reader_refusals r) → EdgeView n next s
+  end : edge_step n next s ≡ Outcome.End → s ≡ 0x45 ∷ [] → EdgeView n next s
+  refused : (r : ℕ) → edge_step n next s ≡ Outcome.Refused r → 0 < r → T (among reader_refusals r) → EdgeView n next s
 
 -- A number is free of faults exactly if it is not below the next one and below 64.
 number-none : (next k : ℕ) → number_fault next k ≡ 0 → (next ≤ k) × (k < 64)
@@ -190,18 +189,18 @@ edge_view n next s = go (eqb (at s 0) 0x45) refl
     go false c = at_edge c (edge_refusal n next s) refl
 
 pub edge-taken : (n next k a b : ℕ) (s : List ℕ) → next ≤ k → k < 64 → end_fault n a b ≡ 0
-    → edge_step n next (0x43 ∷ k ∷ a ∷ b ∷ s) ≡ Step.Edge k a b
+    → edge_step n next (0x43 ∷ k ∷ a ∷ b ∷ s) ≡ Outcome.Edge k a b
 unfolding edge_step edge_refusal
 edge-taken n next k a b s h l e =
     rw (command-values 0x43 4 (0x43 ∷ k ∷ a ∷ b ∷ s) (number_fault next k then end_fault n a b) refl (omega arith) (omega arith)
     ∙ none_then _ (none_number next k h l) ∙ e)
 
-pub end-taken : (n next : ℕ) → edge_step n next (0x45 ∷ []) ≡ Step.End
+pub end-taken : (n next : ℕ) → edge_step n next (0x45 ∷ []) ≡ Outcome.End
 unfolding edge_step end_refusal ◌when◌
 end-taken n next = refl
 
 -- After the end no byte is fit.
-pub end_refused : (n next x : ℕ) (s : List ℕ) → edge_step n next (0x45 ∷ x ∷ s) ≡ Step.Refused 3
+pub end_refused : (n next x : ℕ) (s : List ℕ) → edge_step n next (0x45 ∷ x ∷ s) ≡ Outcome.Refused 3
 unfolding edge_step end_refusal
 end_refused n next x s = rw (some-when 3 (lt-ltb 1 (length (0x45 ∷ x ∷ s)) (omega arith)))
 
@@ -214,15 +213,15 @@ module _ (s : List ℕ) (e : at s 0 ≡ 0x4D) where
   not-length : (c k values : ℕ) → (0x4D ≡ c → ⊥) → command c k s values ≡ 2
   not-length c k values d = command-unfit c k s values (some_byte s e) (λ f. d (sym e ∙ f))
 
-  pub size-unfit : (most : ℕ) → size_step most s ≡ Step.Refused 2
+  pub size-unfit : (most : ℕ) → size_step most s ≡ Outcome.Refused 2
   unfolding size_step size_refusal
   size-unfit most = rw (not-length 0x50 2 (size_fault most (at s 1)) (λ z. let bad : ◌≡◌ {A = ℕ} 0x4D 0x50 = z in omega arith))
 
-  pub terminals-unfit : (n : ℕ) → terminals_step n s ≡ Step.Refused 2
+  pub terminals-unfit : (n : ℕ) → terminals_step n s ≡ Outcome.Refused 2
   unfolding terminals_step terminals_refusal
   terminals-unfit n = rw (not-length 0x53 3 (terminal_fault n (at s 1) (at s 2)) (λ z. let bad : ◌≡◌ {A = ℕ} 0x4D 0x53 = z in omega arith))
 
-  pub edge-unfit : (n next : ℕ) → edge_step n next s ≡ Step.Refused 2
+  pub edge-unfit : (n next : ℕ) → edge_step n next s ≡ Outcome.Refused 2
   unfolding edge_step edge_refusal
   edge-unfit n next =
       rw (
@@ -233,10 +232,10 @@ module _ (s : List ℕ) (e : at s 0 ≡ 0x4D) where
 -- ---- a length
 
 pub data LengthView (before : ℕ) (s : List ℕ) : Type 0 where
-  measured : (high low : ℕ) (rest : List ℕ) → length_step before s ≡ Step.Length (high * 256 + low) → s ≡ 0x4D ∷ before ∷ high ∷ low ∷ rest
+  measured : (high low : ℕ) (rest : List ℕ) → length_step before s ≡ Outcome.Length (high * 256 + low) → s ≡ 0x4D ∷ before ∷ high ∷ low ∷ rest
       → (high * 256 + low ≡ 0 → ⊥) → LengthView before s
-  unmeasured : length_step before s ≡ Step.Length 0 → (at s 0 ≡ 0x4D → ⊥) → LengthView before s
-  refused : (r : ℕ) → length_step before s ≡ Step.Refused r → 0 < r → T (among reader_refusals r) → at s 0 ≡ 0x4D → LengthView before s
+  unmeasured : length_step before s ≡ Outcome.Length 0 → (at s 0 ≡ 0x4D → ⊥) → LengthView before s
+  refused : (r : ℕ) → length_step before s ≡ Outcome.Refused r → 0 < r → T (among reader_refusals r) → at s 0 ≡ 0x4D → LengthView before s
 
 -- A length is free of faults exactly if it is of the edge just before, and not of 0 metres.
 length_none : (before k m : ℕ) → length_fault before k m ≡ 0 → (k ≡ before) × (m ≡ 0 → ⊥)
@@ -270,12 +269,12 @@ length-view before s = go (eqb (at s 0) 0x4D) refl
     go false c = unmeasured (rw c) (eqb-false (at s 0) 0x4D c)
 
 -- What the writer makes of a length is read back, whatever follows, if that is no length.
-pub length_taken : (k m : ℕ) (s : List ℕ) → (at s 0 ≡ 0x4D → ⊥) → length_step k (length_command k m ++ s) ≡ Step.Length m
+pub length_taken : (k m : ℕ) (s : List ℕ) → (at s 0 ≡ 0x4D → ⊥) → length_step k (length_command k m ++ s) ≡ Outcome.Length m
 unfolding length_command length_step length_refusal ◌then◌
 length_taken k m s none = go (ℕ_discrete m 0)
   where
-    go : Dec (m ≡ 0) → length_step k (cond (eqb m 0) [] (0x4D ∷ k ∷ m / 256 ∷ m % 256 ∷ []) ++ s) ≡ Step.Length m
-    go (yes z) = rw (eq-eqb m 0 z, ne_eqb (at s 0) 0x4D none) (ap Step.Length (sym z))
+    go : Dec (m ≡ 0) → length_step k (cond (eqb m 0) [] (0x4D ∷ k ∷ m / 256 ∷ m % 256 ∷ []) ++ s) ≡ Outcome.Length m
+    go (yes z) = rw (eq-eqb m 0 z, ne_eqb (at s 0) 0x4D none) (ap Outcome.Length (sym z))
     go (no some) =
         let whole : m / 256 * 256 + m % 256 ≡ m = div-add-mod' m 256 in
         rw (ne_eqb m 0 some) (rw (whole, none-missing 4 (0x4D ∷ k ∷ m / 256 ∷ m % 256 ∷ s) (omega arith), none-length k m some))
@@ -315,7 +314,7 @@ measured-read k high low rest some = record {
 }
 
 -- The answer of a length tells that it stands there.
-pub length-read : (k m : ℕ) (s : List ℕ) → length_step k s ≡ Step.Length m → LengthRead k m s
+pub length-read : (k m : ℕ) (s : List ℕ) → length_step k s ≡ Outcome.Length m → LengthRead k m s
 length-read k m s e = go (length-view k s)
   where
     go : LengthView k s → LengthRead k m s

@@ -264,22 +264,3 @@ module _ (e l p : List ℕ) (at : ℕ) (vs later : List ℕ) (w : WrittenTo e l 
 
   pub left-next : drop (at + length vs) e ≡ later
   left-next = sym (drop-drop (length vs) at e) ∙ ap (drop (length vs)) r ∙ drop-append_seam vs later
-
--- A slot's command comes first of those from it on.
-pub rest_more : (N : Network) (k : ℕ) → k < 64 → rest N k (64 - k) ≡ edge_command N k ++ rest N (suc k) (64 - suc k)
-rest_more N k l = let more : 64 - k ≡ suc (64 - suc k) = omega arith in ap (rest N k) more ∙ rest-first N k (64 - suc k)
-
--- A slot's command, written where the commands from it on are left.
-module _ (N : Network) (l p : List ℕ) (at k : ℕ) (vs : List ℕ) (h : k < 64) (same : vs ≡ edge_command N k) (w : WrittenTo (encode_of N) l at p)
-    (left : drop at (encode_of N) ≡ rest N k (64 - k)) where
-  next-slot : drop at (encode_of N) ≡ vs ++ rest N (suc k) (64 - suc k)
-  next-slot = left ∙ rest_more N k h ∙ ap (λ x. x ++ rest N (suc k) (64 - suc k)) (sym same)
-
-  pub slot-room : at + length vs ≤ length p
-  slot-room = next-room (encode_of N) l p at vs (rest N (suc k) (64 - suc k)) w next-slot
-
-  pub slot-written : WrittenTo (encode_of N) l (at + length vs) (sets p at vs)
-  slot-written = written_next (encode_of N) l p at vs (rest N (suc k) (64 - suc k)) w next-slot
-
-  pub slots-left : drop (at + length vs) (encode_of N) ≡ rest N (suc k) (64 - suc k)
-  slots-left = left-next (encode_of N) l p at vs (rest N (suc k) (64 - suc k)) w next-slot

@@ -14,6 +14,9 @@
 --   end_refusal s             that of 45
 --   metres_in s               the metres of a length's command, the high byte first
 --   length_refusal before s   that of 4D, straight after the edge `before`
+--   Outcome                   the answer of a command: its values, the end, or a refusal by its number
+--   outcome_of t              the answer that a step of the code is
+--   answered a                the answer that the code gives as a step or a refusal
 --   answer r t                the refusal r as an answer, or t if there is none
 --   size_step most s          the answer of the command 50: its values, or its refusal
 --   terminals_step n s        that of 53
@@ -25,6 +28,8 @@
 --
 -- Reading:
 --   reader_refusals           the numbers that the reader can give
+--   Decoded                   what reading gives: the refusal's number, 0 if there is none, beside the record
+--   decoded a                 the same of what the code answers, the all-zero record where it refuses
 --   accept N                  the reader's answer where it accepts
 --   refuse r                  its answer where it refuses: the all-zero record
 --   if_taken t go_on          refused by the number of the answer t, or on with its values
@@ -38,19 +43,22 @@
 --   length_command k m        the bytes of a length of m metres for edge k
 --   command_of k s            the bytes of slot k where it holds s
 --   edge_command N k          the bytes of slot k of N
+--   present_command N k       the same where edge k is present, whether it is or not  [working]
 --   encode_of N               the bytes of N
+--   Encoded                   what writing gives: the refusal's number, 0 if there is none, beside the count of bytes
+--   encoded a                 the same of what the code answers, the count 0 where it refuses
 --   encode_refusal N lent     the writer's refusal
 --   encoded_by N lent         its answer: the refusal beside the count of bytes
 --   bytes_after N lent        the lent buffer afterwards
 --   WrittenTo plan lent n buffer       the first n bytes of a plan stand in a lent buffer  [working]
-use Rattle.std.specs.Prelude.{cond, not, ◌||◌, ◌≡◌, ℕ, zero, suc, ◌+◌, ◌*◌, ◌/◌, ◌%◌, ◌≤◌, ◌<◌, ltb, eqb, length, get_or, take, drop}
+use Rattle.std.specs.Prelude.{Result, Ok, Err, true, cond, not, ◌||◌, ◌≡◌, ℕ, zero, suc, ◌+◌, ◌*◌, ◌/◌, ◌%◌, ◌≤◌, ◌<◌, ltb, eqb, length, get_or, take, drop}
 use mathlib.Core.List.{List, [], ◌∷◌, ◌++◌, flat_map}
 use Rattle.sequences.specs.Words.{onto}
 use Rattle.node_set.specs.Width.{node_width}
 use Rattle.network.specs.declared.Network.{Network}
-use Rattle.network.specs.Record.{◌when◌, ◌then◌, unless_refused, size_fault, terminal_fault, end_fault, fault_of, slots, Slot, slot, bare, no_network, with_edge}
-use Rattle.format.specs.declared.Decoded.{Decoded}
-use Rattle.format.specs.declared.Encoded.{Encoded}
+use Rattle.network.specs.declared.refusal.Refusal.{Refusal}
+use Rattle.network.specs.Refusals.{number_of, refusal_of, answer_of}
+use Rattle.network.specs.Record.{◌when◌, ◌then◌, unless_refused, size_fault, terminal_fault, end_fault, fault_of, slots, Slot, slot, first_end, second_end, metres_of, bare, no_network, with_edge}
 use Rattle.format.specs.declared.Awaited.{Awaited}
 use Rattle.format.specs.declared.Step.{Step}
 
@@ -103,33 +111,55 @@ metres_in s = at s 2 * 256 + at s 3
 unfoldable pub length_refusal : ℕ → List ℕ → ℕ
 length_refusal before s = missing 4 s then length_fault before (at s 1) (metres_in s)
 
+-- What a command gives: its values, the end, or a refusal by its number.
+pub data Outcome : Type 0 where
+  Size : ℕ → Outcome
+  Terminals : ℕ → ℕ → Outcome
+  Edge : ℕ → ℕ → ℕ → Outcome
+  Length : ℕ → Outcome
+  End : Outcome
+  Refused : ℕ → Outcome
+
+-- So a step of the code is, its refusal by the number.
+abbrev pub outcome_of : Step → Outcome
+outcome_of (Step.Size n) = Outcome.Size n
+outcome_of (Step.Terminals a b) = Outcome.Terminals a b
+outcome_of (Step.Edge k a b) = Outcome.Edge k a b
+outcome_of (Step.Length m) = Outcome.Length m
+outcome_of Step.End = Outcome.End
+outcome_of (Step.Refused r) = Outcome.Refused (number_of r)
+
+abbrev pub answered : Result Step Refusal → Outcome
+answered (Ok t) = outcome_of t
+answered (Err r) = Outcome.Refused (number_of r)
+
 -- A command's answer: its refusal if it has one, else what it gives.
-abbrev pub answer : ℕ → Step → Step
-answer r t = unless_refused r t (Step.Refused r)
+abbrev pub answer : ℕ → Outcome → Outcome
+answer r t = unless_refused r t (Outcome.Refused r)
 
-unfoldable pub size_step : ℕ → List ℕ → Step
-size_step most s = answer (size_refusal most s) (Step.Size (at s 1))
+unfoldable pub size_step : ℕ → List ℕ → Outcome
+size_step most s = answer (size_refusal most s) (Outcome.Size (at s 1))
 
-unfoldable pub terminals_step : ℕ → List ℕ → Step
-terminals_step n s = answer (terminals_refusal n s) (Step.Terminals (at s 1) (at s 2))
+unfoldable pub terminals_step : ℕ → List ℕ → Outcome
+terminals_step n s = answer (terminals_refusal n s) (Outcome.Terminals (at s 1) (at s 2))
 
 -- An edge or the end, by the command byte.
-unfoldable pub edge_step : ℕ → ℕ → List ℕ → Step
+unfoldable pub edge_step : ℕ → ℕ → List ℕ → Outcome
 edge_step n next s =
     cond (eqb (at s 0) 0x45)
-    (answer (end_refusal s) Step.End)
-    (answer (edge_refusal n next s) (Step.Edge (at s 1) (at s 2) (at s 3)))
+    (answer (end_refusal s) Outcome.End)
+    (answer (edge_refusal n next s) (Outcome.Edge (at s 1) (at s 2) (at s 3)))
 
 -- A length may follow an edge. Where none does, the edge is not measured.
-unfoldable pub length_step : ℕ → List ℕ → Step
+unfoldable pub length_step : ℕ → List ℕ → Outcome
 length_step before s =
     cond (eqb (at s 0) 0x4D)
-    (answer (length_refusal before s) (Step.Length (metres_in s)))
-    (Step.Length 0)
+    (answer (length_refusal before s) (Outcome.Length (metres_in s)))
+    (Outcome.Length 0)
 
 -- The command that each place awaits, with what is known there: the number of nodes, and the least edge number allowed; for a length
 -- the number of its edge.
-abbrev pub step_of : Awaited → List ℕ → Step
+abbrev pub step_of : Awaited → List ℕ → Outcome
 step_of Awaited.Size s = size_step node_width s
 step_of (Awaited.Terminals n) s = terminals_step n s
 step_of (Awaited.Edge n next) s = edge_step n next s
@@ -140,19 +170,27 @@ pub record Told : Type 0 where
   pub number : ℕ
   pub values : List ℕ
 
-abbrev pub told : Step → Told
-told (Step.Size n) = record { number = 0; values = n ∷ [] }
-told (Step.Terminals a b) = record { number = 0; values = a ∷ b ∷ [] }
-told (Step.Edge k a b) = record { number = 0; values = k ∷ a ∷ b ∷ [] }
-told (Step.Length m) = record { number = 0; values = m ∷ [] }
-told Step.End = record { number = 0; values = [] }
-told (Step.Refused r) = record { number = r; values = [] }
+abbrev pub told : Outcome → Told
+told (Outcome.Size n) = record { number = 0; values = n ∷ [] }
+told (Outcome.Terminals a b) = record { number = 0; values = a ∷ b ∷ [] }
+told (Outcome.Edge k a b) = record { number = 0; values = k ∷ a ∷ b ∷ [] }
+told (Outcome.Length m) = record { number = 0; values = m ∷ [] }
+told Outcome.End = record { number = 0; values = [] }
+told (Outcome.Refused r) = record { number = r; values = [] }
 
 -- ---- reading
 
 -- The numbers that the reader can give.
 abbrev pub reader_refusals : List ℕ
 reader_refusals = 1 ∷ 2 ∷ 3 ∷ 4 ∷ 5 ∷ 6 ∷ 7 ∷ 8 ∷ 9 ∷ 28 ∷ []
+
+-- What reading gives, and that of the code's answer.
+pub record Decoded : Type 0 where
+  pub refusal : ℕ
+  pub network : Network
+
+abbrev pub decoded : Result Network Refusal → Decoded
+decoded a = record { refusal = refusal_of a; network = answer_of no_network a }
 
 abbrev pub accept : Network → Decoded
 accept N = record { refusal = 0; network = N }
@@ -161,7 +199,7 @@ abbrev pub refuse : ℕ → Decoded
 refuse r = record { refusal = r; network = no_network }
 
 -- A command that fails decides the refusal, by its number; after one that was taken the reader goes on, with its values.
-unfoldable pub if_taken : Step → (List ℕ → Decoded) → Decoded
+unfoldable pub if_taken : Outcome → (List ℕ → Decoded) → Decoded
 if_taken t go_on = unless_refused (told t).number (go_on (told t).values) (refuse (told t).number)
 
 -- So many bytes there are of a length: none of 0 metres.
@@ -207,8 +245,19 @@ command_of k s = cond s.0 (0x43 ∷ k ∷ s.1 ∷ s.2 ∷ length_command k s.3) 
 unfoldable pub edge_command : Network → ℕ → List ℕ
 edge_command N k = command_of k (slot N k)
 
+abbrev pub present_command : Network → ℕ → List ℕ
+present_command N k = command_of k (true, first_end N k, second_end N k, metres_of N k)
+
 unfoldable pub encode_of : Network → List ℕ
 encode_of N = 0x50 ∷ N.nodes ∷ 0x53 ∷ N.source ∷ N.sink ∷ (flat_map (edge_command N) slots ++ 0x45 ∷ [])
+
+-- What writing gives, and that of the code's answer.
+pub record Encoded : Type 0 where
+  pub refusal : ℕ
+  pub count : ℕ
+
+abbrev pub encoded : Result ℕ Refusal → Encoded
+encoded a = record { refusal = refusal_of a; count = answer_of 0 a }
 
 -- The record's first fault, then 15: the plan needs more bytes than were lent.
 unfoldable pub encode_refusal : Network → List ℕ → ℕ

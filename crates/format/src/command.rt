@@ -1,4 +1,5 @@
-// The command bytes of a plan.
+// The command bytes of a plan. They are no enum: each place of a plan fits one of them, or two, and compares with it, and none asks which
+// command any byte is.
 pub const SIZE: u8 = 0x50; // point count
 
 pub const TERMINALS: u8 = 0x53; // server, room

@@ -4,8 +4,6 @@
 ghost use Rattle.std.specs.Prelude.{◌≡◌, ◌+◌, ◌*◌, ◌%◌, ◌^◌};
 ghost use Rattle.generator.specs.Generator.{advanced, draw_of};
 
-use std::num::wrapping_add_u64;
-
 // What makes each number from the one before: it is multiplied and added to.
 #[derive(Clone, Copy)]
 struct Generator {
@@ -17,7 +15,8 @@ struct Generator {
 const HALF: u64 = 4294967296;
 
 // The remainder by 2^64 of a product, by halves of 32 bits: no product of two halves is past 64 bits, that of the high ones leaves no
-// remainder, and of those of a high and a low one the low half alone does.
+// remainder, and of those of a high and a low one the low half alone does. A helper by halves in place of the library's method: the form
+// that was asked for has one, and cross_product_lost exchanges one product of halves for another.
 pub fn wrapping_mul(a: u64, b: u64) -> u64
     ensures { result ≡ (a * b) % 2 ^ 64 }
 {
@@ -25,18 +24,17 @@ pub fn wrapping_mul(a: u64, b: u64) -> u64
     let a_high = a / HALF;
     let b_low = b % HALF;
     let b_high = b / HALF;
-    let cross = wrapping_add_u64(a_high * b_low, a_low * b_high) % HALF;
-    wrapping_add_u64(a_low * b_low, cross * HALF)
+    let cross = (a_high * b_low).wrapping_add(a_low * b_high) % HALF;
+    (a_low * b_low).wrapping_add(cross * HALF)
 }
 
-// The number that a generator makes from this one.
-fn after(generator: Generator, number: u64) -> u64
-    ensures { result ≡ (number * generator.multiplier + generator.increment) % 2 ^ 64 }
-{
-    wrapping_add_u64(
-        wrapping_mul(number, generator.multiplier),
-        generator.increment,
-    )
+impl Generator {
+    // The number that comes after this one.
+    fn after(self, number: u64) -> u64
+        ensures { result ≡ (number * self.multiplier + self.increment) % 2 ^ 64 }
+    {
+        wrapping_mul(number, self.multiplier).wrapping_add(self.increment)
+    }
 }
 
 // The number that comes after this one. The constants are handed on in a struct: a compiler that knows the multiplier inside `wrapping_mul`
@@ -48,7 +46,7 @@ pub fn advance(number: u64) -> u64
         multiplier: 6364136223846793005,
         increment: 1442695040888963407,
     };
-    after(generator, number)
+    generator.after(number)
 }
 
 // What is drawn with a number: its top 8 bits.

@@ -2,18 +2,13 @@
 #![tactic(auto)]
 
 ghost use Rattle.std.specs.Prelude.{◌≡◌, ◌*◌, ◌≤◌, ◌<◌};
+ghost use Rattle.network.specs.Refusals.{refusal_of, answer_of};
 ghost use Rattle.network.specs.Record.{metres_of};
-ghost use Rattle.lengths.specs.Lengths.{total_metres, total_of, TotalMeans};
+ghost use Rattle.lengths.specs.Lengths.{total_metres, measured, total_of, TotalMeans};
 
 use edge_set::EdgeSet;
-use network::{Network, set_fault};
-
-// The answer: the refusal's number, 0 if there is none, beside the total metres, 0 on refusal.
-#[derive(Clone, Copy)]
-pub struct Measured {
-    pub refusal: u8,
-    pub metres: u32,
-}
+use network::{Network, Refusal, set_fault};
+use sets::BitSet;
 
 // The metres of an edge, 0 if it is not measured.
 fn metres_of(network: Network, edge: u32) -> u16
@@ -27,30 +22,18 @@ fn metres_of(network: Network, edge: u32) -> u16
 fn total_metres(network: Network, set: EdgeSet) -> u32
     ensures { (result ≡ total_metres network set.0) × (result ≤ 64 * 65535) }
 {
-    let mut total: u32 = 0;
-    let mut left = set;
-    loop {
-        let k = left.lowest();
-        let past = 64 <= k;
-        if past {
-            return total;
-        }
-        total = total + (metres_of(network, k) as u32);
-        left = left.without_lowest();
+    let mut total = 0;
+    for k in set.members() {
+        total += u32::from(metres_of(network, k));
     }
+    total
 }
 
 // The total metres of a set of edges: the record's first fault, then 14; else the sum, to which an edge that is not measured adds 0.
-pub fn total(network: Network, set: EdgeSet) -> Measured
-    ensures value { result ≡ total_of network set.0 }
-    ensures means { TotalMeans network set.0 result.refusal result.metres }
+pub fn total(network: Network, set: EdgeSet) -> Result<u32, Refusal>
+    ensures value { measured result ≡ total_of network set.0 }
+    ensures means { TotalMeans network set.0 (refusal_of result) (answer_of 0 result) }
 {
-    let refusal = set_fault(network, set);
-    if refusal != 0 {
-        return Measured { refusal, metres: 0 };
-    }
-    Measured {
-        refusal: 0,
-        metres: total_metres(network, set),
-    }
+    set_fault(network, set)?;
+    Ok(total_metres(network, set))
 }

@@ -13,25 +13,15 @@ use std::io;
 use std::io::{Read, Stdin, Write};
 use text::MAX_TEXT;
 
-// What reading came to: so many bytes, or a read failed.
-#[derive(Clone, Copy)]
-enum Input {
-    Read(usize),
-    Failed,
-}
-
-// What a read came to that answered `got`: it failed if that is an error.
-fn input_of(got: io::Result<usize>, room: &[u8]) -> Input
+// What a read came to that answered `got`: no more bytes than there is room for; it failed if that is an error.
+fn input_of(got: io::Result<usize>, room: &[u8]) -> io::Result<usize>
     ensures { result ≡ input_of got (length room.now) }
 {
-    match got {
-        Ok(count) => Input::Read(count.min(room.len())),
-        Err(_) => Input::Failed,
-    }
+    got.map(|count| count.min(room.len()))
 }
 
 // One read of standard input into the lent bytes. A count of 0 is the end of the input.
-fn read_once(stdin: &mut Stdin, room: &mut [u8]) -> Input
+fn read_once(stdin: &mut Stdin, room: &mut [u8]) -> io::Result<usize>
     ensures { Counted (length room.new) result }
 {
     let got = stdin.read(room);
@@ -39,25 +29,23 @@ fn read_once(stdin: &mut Stdin, room: &mut [u8]) -> Input
 }
 
 // Reads standard input into the lent bytes, until they are full or the input ends.
-fn fill(stdin: &mut Stdin, room: &mut [u8]) -> Input
+// A loop of its own: std's `read_exact` refuses an input that is shorter, and its `read_to_end` allocates.
+fn fill(stdin: &mut Stdin, room: &mut [u8]) -> io::Result<usize>
     ensures { Counted (length room.new) result }
 {
     let mut read = 0;
     while read < room.len() {
-        let input = read_once(stdin, &mut room[read..]);
-        let Input::Read(more) = input else {
-            return Input::Failed;
-        };
+        let more = read_once(stdin, &mut room[read..])?;
         if more == 0 {
-            return Input::Read(read);
+            return Ok(read);
         }
         read += more;
     }
-    Input::Read(read)
+    Ok(read)
 }
 
 // Reads the first bytes of standard input, as many as decide any plan.
-fn read_plan(stdin: &mut Stdin, plan: &mut [u8; DECIDING]) -> Input
+fn read_plan(stdin: &mut Stdin, plan: &mut [u8; DECIDING]) -> io::Result<usize>
     ensures { Counted (length plan.new) result }
 {
     fill(stdin, plan)
@@ -65,8 +53,7 @@ fn read_plan(stdin: &mut Stdin, plan: &mut [u8; DECIDING]) -> Input
 
 fn main(rt: HostRuntime) {
     let mut plan = [0u8; DECIDING];
-    let input = read_plan(&mut rt.stdin(), &mut plan);
-    let Input::Read(read) = input else {
+    let Ok(read) = read_plan(&mut rt.stdin(), &mut plan) else {
         let _ = rt.stderr().write_all(b"list: cannot read standard input\n");
         return;
     };

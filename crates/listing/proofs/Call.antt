@@ -3,21 +3,23 @@
 --
 --   Answered N cuts sides r cuts' sides'     the answer and the rows left are those of the call
 use mathlib.Core.Path.{◌≡◌, refl, sym, ap, ◌∙◌}
-use mathlib.Core.List.{List}
-use Prim.Native.Nat.{ℕ, ◌-◌, ◌≤◌, ◌<◌}
+use mathlib.Core.List.{List, ◌++◌}
+use Prim.Native.Nat.{ℕ, ◌≤◌, ◌<◌}
 use native.Mathlib.Omega.{arith}
-use borrow.Rule.Slice.PartMut.{put_mid}
-use lib.ListN.{length, take, length-map}
+use lib.ListN.{length, take, drop, length-map}
 use Rattle.sequences.specs.Words.{onto}
+use Rattle.std.specs.Prelude.{Result, Ok, Err}
+use Rattle.std.specs.Result.{IsErrAnd}
 use Rattle.network.specs.declared.Network.{Network}
+use Rattle.network.specs.declared.refusal.Refusal.{Refusal}
+use Rattle.network.specs.Refusals.{number_of}
 use Rattle.network.specs.Record.{fault_of, Stored}
-use Rattle.network.proofs.Refusals.{refused-some}
+use Rattle.network.proofs.Refusals.{refused-some, number-some}
 use Rattle.sorting.specs.Sorted.{Sorted}
 use Rattle.filling.specs.Filled.{Filled}
 use Rattle.graph.proofs.Sound.{Sound, accepted-sound}
 use Rattle.branches.specs.Enumeration.{Row, cuts_of, sides_of, rows}
-use Rattle.listing.specs.declared.Listed.{Listed}
-use Rattle.listing.specs.List.{mincuts, source_sides, list_refusal, listed_by, cut_rows_after, side_rows_after, Listing}
+use Rattle.listing.specs.List.{Listed, listed, mincuts, source_sides, list_refusal, listed_by, cut_rows_after, side_rows_after, Listing}
 use Rattle.listing.proofs.Rows.{rows-paired, mincuts-count, sorted-mincuts, sorted-sides}
 use Rattle.listing.proofs.LentOn.{onto-first, onto-back}
 use Rattle.listing.proofs.Refusals.{refusal-faulty, refusal-unpaired, refusal-outnumbered, refusal-none}
@@ -71,6 +73,12 @@ module _ (N : Network) (cuts sides : List ℕ) where
   pub answered-faulty : (r : ℕ) → r ≡ fault_of N → (r ≡ 0 → ⊥) → Answered N cuts sides (record { refusal = r; count = 0 }) cuts sides
   answered-faulty r e n = refused N cuts sides r (refusal-faulty N cuts sides (λ z. n (e ∙ z)) ∙ sym e) n
 
+  -- So it is where the refusal is passed on.
+  pub answered-refused : (a : Result ℕ Refusal) (r : Refusal) → IsErrAnd a (λ e. e ≡ r) → number_of r ≡ fault_of N
+      → Answered N cuts sides (listed a) cuts sides
+  answered-refused (Ok n) r passed e = absurd passed
+  answered-refused (Err x) r passed e = rw passed (answered-faulty (number_of r) e (number-some r))
+
   -- Rows that differ in number are refused with 11.
   pub answered-unpaired : fault_of N ≡ 0 → (length cuts ≡ length sides → ⊥) → Answered N cuts sides (record { refusal = 11; count = 0 }) cuts sides
   answered-unpaired ok differ = refused N cuts sides 11 ((refusal-unpaired N cuts sides).1 (ok, differ)) (λ e. omega arith)
@@ -93,8 +101,8 @@ module _ (N : Network) (cuts sides : List ℕ) where
 
     -- Otherwise the rows of the enumeration are written onto those lent, and these n are sorted in place.
     pub answered-complete : {filled filled' : List ℕ} {n : ℕ} → Filled (rows N) cuts sides filled filled' n → n ≤ length cuts
-        → (sorted sorted' : List ℕ) → Sorted (take (n - 0) filled) (take (n - 0) filled') sorted sorted'
-        → Answered N cuts sides (record { refusal = 0; count = n }) (put_mid 0 (n - 0) filled sorted) (put_mid 0 (n - 0) filled' sorted')
+        → (sorted sorted' : List ℕ) → Sorted (take n filled) (take n filled') sorted sorted'
+        → Answered N cuts sides (record { refusal = 0; count = n }) (sorted ++ drop n filled) (sorted' ++ drop n filled')
     answered-complete {filled} {filled'} {n} f fits sorted sorted' s =
         let l = rows N in
         let count : n ≡ length l = omega (arith, f.count) in

@@ -19,8 +19,7 @@ use Rattle.graph.specs.Lists.{CompleteList, Outnumber}
 use Rattle.graph.specs.Relevant.{source_side_of}
 use Rattle.graph.proofs.Sound.{Sound, accepted-sound}
 use Rattle.graph.proofs.Correspondence.{in-source_side_of}
-use Rattle.listing.specs.declared.Listed.{Listed}
-use Rattle.listing.specs.List.{mincuts, source_sides, list_refusal, listed_by, ListMeans}
+use Rattle.listing.specs.List.{Listed, mincuts, source_sides, list_refusal, listed_by, ListMeans}
 use Rattle.listing.proofs.Mincuts.{mincuts-lists}
 use Rattle.listing.proofs.Refusals.{refusal-outnumbered}
 use Rattle.listing.proofs.Call.{Answered, answer-refusal, complete-call}

@@ -17,9 +17,13 @@ use lib.ListN.{length}
 use Rattle.sequences.specs.Words.{onto}
 use Rattle.sequences.proofs.Tests.{T-dec}
 use Rattle.bitset.proofs.Subsets.{same_test}
+use Rattle.std.specs.Prelude.{Result, Ok, Err}
+use Rattle.std.specs.Result.{IsErrAnd}
 use Rattle.network.specs.declared.Network.{Network}
+use Rattle.network.specs.declared.refusal.Refusal.{Refusal}
+use Rattle.network.specs.Refusals.{number_of}
 use Rattle.network.specs.Record.{among, fault_of, Stored}
-use Rattle.network.proofs.Refusals.{none_then, some_then, refused-some}
+use Rattle.network.proofs.Refusals.{none_then, some_then, refused-some, number-some}
 use Rattle.network.proofs.Numbers.{not-fault}
 use Rattle.graph.specs.Cuts.{Trimmed, Untrimmed}
 use Rattle.graph.specs.Relevant.{trimmed}
@@ -27,8 +31,7 @@ use Rattle.graph.proofs.Sound.{accepted-sound}
 use Rattle.graph.proofs.Trimmed.{trimmed-iff, untrimmed-iff}
 use Rattle.trimmed.specs.Trimmed.{trimmed_fault}
 use Rattle.trimmed.proofs.Faults.{trimmed-faulty, trimmed-refused, trimmed-none, trimmed-ok}
-use Rattle.listing.specs.declared.Listed.{Listed}
-use Rattle.listing.specs.List.{mincuts, source_sides, listed_under, cut_rows_under, side_rows_under, list_refusal, listed_by, cut_rows_after, side_rows_after, ListMeans}
+use Rattle.listing.specs.List.{Listed, listed, mincuts, source_sides, listed_under, cut_rows_under, side_rows_under, list_refusal, listed_by, cut_rows_after, side_rows_after, ListMeans}
 use Rattle.listing.specs.Trimmed.{trimmed_refusal, trimmed_listed_by, trimmed_cut_rows, trimmed_side_rows, TrimmedMeans}
 use Rattle.listing.proofs.Refusals.{Case, faulty, unpaired, outnumbered, complete, call-case, refusal-faulty, refusal-unpaired, refusal-outnumbered, refusal-none}
 use Rattle.listing.proofs.Call.{Answered, answered-listing}
@@ -97,6 +100,12 @@ module _ (N : Network) (cuts sides : List ℕ) where
   trimmed-answered-refused r e some =
       rw (trimmed-first (λ z. some (e ∙ z)), ← e, refused-some r (length (mincuts N)) 0 some, refused-some r (onto (mincuts N) cuts) cuts some, refused-some r (onto (source_sides N) sides) sides some)
       (refl, refl, refl)
+
+  -- So it is where the refusal is passed on.
+  pub trimmed-answered-passed : (a : Result ℕ Refusal) (r : Refusal) → IsErrAnd a (λ e. e ≡ r) → number_of r ≡ trimmed_fault N
+      → TrimmedAnswered N cuts sides (listed a) cuts sides
+  trimmed-answered-passed (Ok n) r passed e = absurd passed
+  trimmed-answered-passed (Err x) r passed e = rw passed (trimmed-answered-refused (number_of r) e (number-some r))
 
   -- Where the refusal is that of the list call, so are the answer and the rows.
   pub answers-ordinary : trimmed_refusal N cuts sides ≡ list_refusal N cuts sides

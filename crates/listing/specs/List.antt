@@ -3,6 +3,9 @@
 --
 --   mincuts N                the mincuts of N, rising: the complete list  [computed: mincuts-complete (listing/proofs/Meaning)]
 --   source_sides N           their source sides, each at the place of its mincut
+--   Listed                       what a call that lists answers: the refusal's number, 0 if there is none, and the count of rows listed, 0 on
+--                            refusal
+--   listed a                     the answer a as these two numbers
 --   listed_under r N             the answer of a call that lists N under the refusal r
 --   cut_rows_under r N cuts      the lent cut rows after it
 --   side_rows_under r N sides    the lent side rows after it
@@ -13,15 +16,16 @@
 --   Listing N cuts sides r n cuts' sides'     the call, lent `cuts` and `sides`, gives the refusal r and the count n and leaves cuts' and sides'
 --   ListMeans N cuts sides r n cuts' sides'     what it means that the call, lent `cuts` and `sides`, gave the refusal r and the count n
 --                            and left cuts' and sides'
-use Rattle.std.specs.Prelude.{not, List, map, ◌↔◌, ◌≡◌, ℕ, ltb, eqb, length}
+use Rattle.std.specs.Prelude.{not, List, Result, map, ◌↔◌, ◌≡◌, ℕ, ltb, eqb, length}
 use Rattle.sequences.specs.Words.{passing, onto}
 use Rattle.bitset.specs.Members.{subsets}
 use Rattle.network.specs.declared.Network.{Network}
+use Rattle.network.specs.declared.refusal.Refusal.{Refusal}
+use Rattle.network.specs.Refusals.{refusal_of, answer_of}
 use Rattle.network.specs.Record.{◌when◌, ◌then◌, unless_refused, fault_of, Stored, present}
 use Rattle.graph.specs.Lists.{CompleteList, Outnumber}
 use Rattle.graph.specs.CutTests.{mincut_test}
 use Rattle.graph.specs.Relevant.{source_side_of}
-use Rattle.listing.specs.declared.Listed.{Listed}
 
 -- ---- the complete list
 
@@ -32,6 +36,13 @@ abbrev pub source_sides : Network → List ℕ
 source_sides N = map (source_side_of N) (mincuts N)
 
 -- ---- a call that lists, under its refusal
+
+pub record Listed : Type 0 where
+  pub refusal : ℕ
+  pub count : ℕ
+
+abbrev pub listed : Result ℕ Refusal → Listed
+listed a = record { refusal = refusal_of a; count = answer_of 0 a }
 
 abbrev pub listed_under : ℕ → Network → Listed
 listed_under r N = record { refusal = r; count = unless_refused r (length (mincuts N)) 0 }

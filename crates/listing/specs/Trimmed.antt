@@ -15,8 +15,7 @@ use Rattle.network.specs.Record.{◌then◌, fault_of, Stored}
 use Rattle.graph.specs.Cuts.{Trimmed, Untrimmed}
 use Rattle.graph.specs.Lists.{CompleteList, Outnumber}
 use Rattle.trimmed.specs.Trimmed.{trimmed_fault}
-use Rattle.listing.specs.declared.Listed.{Listed}
-use Rattle.listing.specs.List.{listed_under, cut_rows_under, side_rows_under, list_refusal, Listing}
+use Rattle.listing.specs.List.{Listed, listed_under, cut_rows_under, side_rows_under, list_refusal, Listing}
 
 -- The record's first fault, then 26: some point or present cable is not useful; then what the list call refuses
 unfoldable pub trimmed_refusal : Network → List ℕ → List ℕ → ℕ

@@ -4,10 +4,3 @@
 mod lister;
 
 pub use lister::{list, list_trimmed};
-
-// The list call's answer: the refusal's number, 0 if there is none, beside the count of rows listed, 0 on refusal.
-#[derive(Clone, Copy)]
-pub struct Listed {
-    pub refusal: u8,
-    pub count: usize,
-}

@@ -4,27 +4,31 @@ use mathlib.Core.Bool.{true, false, ◌||◌}
 use mathlib.Core.List.{List}
 use mathlib.Core.Logic.{◌⊎◌, inl, inr, ◌↔◌}
 use mathlib.Core.Path.{◌≡◌, refl, sym, ap, ◌∙◌}
-use Prim.Native.Nat.{ℕ, ◌≤◌, ◌<◌}
+use Prim.Native.Nat.{ℕ, ◌*◌, ◌≤◌, ◌<◌}
 use native.Mathlib.Decide.{ℕ_discrete}
 use native.Mathlib.Omega.{arith}
 use borrow.Author.Tests.{ltb-false, lt-ltb, le-ltb}
 use denote.Floats.{passes, is_true}
 use lib.Dec.{T, ltb}
+use lib.ListN.{length}
+use Rattle.std.specs.Prelude.{Result, Ok, Err}
+use Rattle.std.specs.Result.{IsErrAnd}
 use Rattle.sequences.specs.Counts.{Exactly}
 use Rattle.sequences.proofs.Tests.{T_and, T-or}
 use Rattle.network.specs.declared.Network.{Network}
+use Rattle.network.specs.declared.refusal.Refusal.{Refusal}
+use Rattle.network.specs.Refusals.{number_of}
 use Rattle.network.specs.Record.{◌when◌, ◌then◌, fault_of, present, Stored}
 use Rattle.network.specs.Rules.{Rules}
-use Rattle.network.proofs.Refusals.{then-none, none_then, some_then, when-none, none-when, some-when, or-none, refused-some}
+use Rattle.network.proofs.Refusals.{number-some, then-none, none_then, some_then, when-none, none-when, some-when, or-none, refused-some}
 use Rattle.network.proofs.Rules.{fault-rules}
 use Rattle.graph.specs.Cuts.{Silenced, HoldsMincut}
 use Rattle.graph.specs.Reach.{Bounded}
 use Rattle.graph.specs.CutTests.{severed}
 use Rattle.graph.proofs.Cuts.{severed-silenced, holds-silenced}
 use Rattle.graph.proofs.Sound.{accepted-sound}
-use Rattle.maintenance.specs.declared.Outage.{Outage}
 use Rattle.windows.specs.Windows.{week, is_open, out_at, opening_count, works_count, openings_fault, works_fault}
-use Rattle.maintenance.specs.Outage.{silent_minute, silent_minutes, too_many, outage_refusal, outage_of, WindowRules, OutageMeans}
+use Rattle.maintenance.specs.Outage.{silent_minute, silent_minutes, too_many, outage_refusal, Outage, outage, outage_of, WindowRules, OutageMeans}
 use Rattle.sequences.proofs.Ranges.{exactly-counted}
 use Rattle.windows.proofs.Windows.{openings-rules, works-rules}
 use Rattle.windows.proofs.Times.{left, left-61}
@@ -39,6 +43,9 @@ module _ (o w : List ℕ) where
     λ k. rw (le-ltb 14 (opening_count o) k.0, le-ltb 16 (works_count w) k.1) refl,
   )
 
+  pub fits : length o ≤ 2 * 14 → length w ≤ 3 * 16 → too_many o w ≡ false
+  fits h k = few.1 (omega arith, omega arith)
+
   pub many : (14 < opening_count o) ⊎ (16 < works_count w) → too_many o w ≡ true
   many (inl l) = ap (λ b. b || ltb 16 (works_count w)) (lt-ltb 14 (opening_count o) l)
   many (inr l) = is_true _ ((T-or (ltb 14 (opening_count o)) (ltb 16 (works_count w))).1 (inr (passes _ (lt-ltb 16 (works_count w) l))))
@@ -48,6 +55,12 @@ module _ (N : Network) (o w : List ℕ) where
   pub outage-refused : (r : ℕ) → r ≡ outage_refusal N o w → (r ≡ 0 → ⊥) → record { refusal = r; minutes = 0 } ≡ outage_of N o w
   unfolding outage_of
   outage-refused r e some = rw (← e, refused-some r (silent_minutes N o w) 0 some) refl
+
+  -- So does one that is passed on.
+  pub outage-passed : (a : Result ℕ Refusal) (r : Refusal) → IsErrAnd a (λ e. e ≡ r) → number_of r ≡ outage_refusal N o w
+      → outage a ≡ outage_of N o w
+  outage-passed (Ok n) r h e = absurd h
+  outage-passed (Err q) r h e = outage-refused (number_of q) (ap number_of h ∙ e) (number-some q)
 
   -- Without one they are counted.
   pub outage-counted : (n : ℕ) → outage_refusal N o w ≡ 0 → n ≡ silent_minutes N o w → record { refusal = 0; minutes = n } ≡ outage_of N o w

@@ -16,7 +16,7 @@ use Rattle.network.specs.declared.Network.{Network}
 use Rattle.graph.specs.CutTests.{severed}
 use Rattle.windows.specs.Windows.{week, is_open, out_at}
 use Rattle.windows.specs.Times.{times_of, soonest, changes_of}
-use Rattle.windows.proofs.Times.{Next, soonest-next, open-steady, out-steady}
+use Rattle.windows.proofs.Times.{Next, left, fewer-left, soonest-next, open-steady, out-steady}
 use Rattle.maintenance.specs.Outage.{silent_minute, silent_minutes}
 
 -- Until the next change a minute is silent as the first one is.
@@ -57,6 +57,9 @@ module _ (N : Network) (o w : List ℕ) where
 
       pub next-within : n ≤ week
       next-within = next-change.first week (Memᴰ.head refl) h
+
+      pub next-fewer : left o w n < left o w m
+      next-fewer = fewer-left o w next-change
 
       -- The stretch counts as its first minute does.
       stretch : (b : Bool) → silent m ≡ b → count_if silent (range 0 n) ≡ minutes + cond b (n - m) 0

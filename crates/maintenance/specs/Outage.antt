@@ -5,18 +5,21 @@
 --   silent_minutes N o w     how many minutes of the week are such  [computed: minutes-right (maintenance/proofs/Meaning)]
 --   too_many o w             whether there are too many windows of either kind
 --   outage_refusal N o w     the call's refusal for a network, opening windows and works windows, 0 if there is none
+--   Outage                   a call's answer as numbers: the refusal, 0 if there is none, beside the minutes, 0 on refusal
+--   outage a                 the answer a of the call as such numbers
 --   outage_of N o w          its answer
 --   WindowRules p o w        the rules of both kinds of windows, where the edges p are present
 --   OutageMeans N o w r n    what it means that the call gave the refusal r and the minutes n
-use Rattle.std.specs.Prelude.{Bool, ◌&&◌, ◌||◌, List, ◌↔◌, ◌≡◌, ℕ, ◌≤◌, T, ltb}
+use Rattle.std.specs.Prelude.{Bool, ◌&&◌, ◌||◌, List, Result, ◌↔◌, ◌≡◌, ℕ, ◌≤◌, T, ltb}
 use Rattle.sequences.specs.Words.{range}
 use Rattle.sequences.specs.Counts.{count_if, Exactly}
 use Rattle.network.specs.declared.Network.{Network}
+use Rattle.network.specs.declared.refusal.Refusal.{Refusal}
+use Rattle.network.specs.Refusals.{refusal_of, answer_of}
 use Rattle.network.specs.Record.{◌when◌, ◌then◌, unless_refused, fault_of, present, Stored}
 use Rattle.network.specs.Rules.{Rules}
 use Rattle.graph.specs.Cuts.{Silenced, HoldsMincut}
 use Rattle.graph.specs.CutTests.{severed}
-use Rattle.maintenance.specs.declared.Outage.{Outage}
 use Rattle.windows.specs.Windows.{week, is_open, out_at, opening_count, works_count, openings_fault, works_fault, Openings, Works}
 
 unfoldable pub silent_minute : Network → List ℕ → List ℕ → ℕ → Bool
@@ -32,6 +35,13 @@ too_many o w = ltb 14 (opening_count o) || ltb 16 (works_count w)
 -- The record's first fault, then 23: too many windows of either kind; then the first fault of the openings, then that of the works
 unfoldable pub outage_refusal : Network → List ℕ → List ℕ → ℕ
 outage_refusal N o w = fault_of N then 23 when too_many o w then openings_fault o then works_fault (present N) w
+
+pub record Outage : Type 0 where
+  pub refusal : ℕ
+  pub minutes : ℕ
+
+abbrev pub outage : Result ℕ Refusal → Outage
+outage a = record { refusal = refusal_of a; minutes = answer_of 0 a }
 
 unfoldable pub outage_of : Network → List ℕ → List ℕ → Outage
 outage_of N o w = let r = outage_refusal N o w in record { refusal = r; minutes = unless_refused r (silent_minutes N o w) 0 }

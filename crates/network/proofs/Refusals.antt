@@ -1,7 +1,7 @@
 -- The laws of `when`, `then` and `first_fault`, by which the rules are put together, and of `unless_refused`.
 -- Assumes nothing.
 use mathlib.Core.Bool.{Bool, true, false, ◌||◌, true≢false}
-use mathlib.Core.Path.{◌≡◌, refl, ap, ◌∙◌}
+use mathlib.Core.Path.{◌≡◌, refl, sym, ap, ◌∙◌}
 use mathlib.Core.List.{List, [], ◌∷◌}
 use mathlib.Core.Logic.{inl, inr}
 use Prim.Native.Nat.{ℕ, zero, suc, ◌+◌, ◌-◌, ◌≤◌, ◌<◌}
@@ -11,7 +11,42 @@ use borrow.Author.Tests.{ltb-false, leb-false, eqb-false}
 use lib.Dec.{T, leb, ltb, eqb}
 use Rattle.sequences.specs.Words.{range, every}
 use Rattle.sequences.proofs.Tests.{T-or, T-then, T-eqb}
+use Rattle.std.specs.Prelude.{Result, Ok, Err}
+use Rattle.std.specs.Result.{IsErrAnd}
+use Rattle.network.specs.declared.refusal.Refusal.{Refusal}
+use Rattle.network.specs.declared.refusal.Refusal.TheVariants.{Truncated, UnfitCommand, TrailingByte, BadNodeCount, TerminalOutside, SameTerminals, EdgeNumberTooHigh, EdgeNumberNotRising, EndOutside, BadLength, BadEvent, NoSuchEdge, TooManyWindows, BadWindow, BadRooms, TooManySteps, RowsDiffer, TooManyCuts, AbsentEdgeNotZero, EdgeNotPresent, BufferTooShort, TooManyEvents, WorkTooShort, NotTrimmed}
+use Rattle.network.specs.Refusals.{number_of, refusal_of}
 use Rattle.network.specs.Record.{◌when◌, ◌then◌, first_fault, among, unless_refused, size_fault, outside_fault, terminal_fault}
+
+-- No refusal has the number 0.
+pub number-pos : (r : Refusal) → 0 < number_of r
+number-pos Truncated = omega arith
+number-pos UnfitCommand = omega arith
+number-pos TrailingByte = omega arith
+number-pos BadNodeCount = omega arith
+number-pos TerminalOutside = omega arith
+number-pos SameTerminals = omega arith
+number-pos EdgeNumberTooHigh = omega arith
+number-pos EdgeNumberNotRising = omega arith
+number-pos EndOutside = omega arith
+number-pos BadLength = omega arith
+number-pos BadEvent = omega arith
+number-pos NoSuchEdge = omega arith
+number-pos TooManyWindows = omega arith
+number-pos BadWindow = omega arith
+number-pos BadRooms = omega arith
+number-pos TooManySteps = omega arith
+number-pos RowsDiffer = omega arith
+number-pos TooManyCuts = omega arith
+number-pos AbsentEdgeNotZero = omega arith
+number-pos EdgeNotPresent = omega arith
+number-pos BufferTooShort = omega arith
+number-pos TooManyEvents = omega arith
+number-pos WorkTooShort = omega arith
+number-pos NotTrimmed = omega arith
+
+pub number-some : (r : Refusal) → number_of r ≡ 0 → ⊥
+number-some r e = omega (arith, number-pos r, e)
 
 -- Two rules in a row find no fault exactly if neither does.
 pub then-none : (r s : ℕ) → (r then s) ≡ 0 → (r ≡ 0) × (s ≡ 0)
@@ -28,6 +63,15 @@ pub some_then : (r s : ℕ) → 0 < r → (r then s) ≡ r
 unfolding ◌then◌
 some_then zero s p = absurd (omega arith)
 some_then (suc r) s p = refl
+
+-- A refusal that is the answer of the first of two rules is that of both in a row.
+pub refused_then : (r : Refusal) {s : ℕ} (t : ℕ) → number_of r ≡ s → number_of r ≡ (s then t)
+refused_then r {s} t e = e ∙ sym (some_then s t (omega (arith, e, number-pos r)))
+
+-- A refusal that is passed on keeps its number.
+pub passed-on : {A : Type 0} (a : Result A Refusal) (r : Refusal) → IsErrAnd a (λ e. e ≡ r) → refusal_of a ≡ number_of r
+passed-on (Ok x) r h = absurd h
+passed-on (Err e) r h = ap number_of h
 
 -- Where the later of two rules gives way to one that answers otherwise only where k was answered, the two do so only where they gave k.
 pub then-kept : {a b : ℕ} (k r : ℕ) → ((a ≡ k → ⊥) → b ≡ a) → ((r then a) ≡ k → ⊥) → (r then b) ≡ (r then a)

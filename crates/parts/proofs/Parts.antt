@@ -6,23 +6,24 @@
 --                            and of the targets `others` those that are not missing are among them
 --   Turn adjacent missing fresh left missing' fresh' left'     a fresh node is looked at: those of its neighbours that are left are found
 use mathlib.Core.Path.{◌≡◌, refl, sym, ◌∙◌}
-use mathlib.Core.Bool.{false, not, ◌&&◌}
+use mathlib.Core.Bool.{false, not, ◌&&◌, ◌||◌}
 use mathlib.Core.List.{List}
 use mathlib.Core.Logic.Dec
 use mathlib.Core.Logic.{◌⊎◌, inl, inr, ⊎_map, ◌↔◌}
 use Prim.Native.Nat.{ℕ, ◌^◌, ◌<◌}
 use native.Mathlib.Decide.{ℕ_discrete}
+use native.Mathlib.Nat.{lt_of_le_of_lt}
 use denote.Floats.{is_true, passes}
 use lib.Bits.{bit_and, bit_or}
 use lib.Count.{count_trailing_zeros}
 use lib.Dec.{eqb}
 use lib.ListN.{get_or}
 use Rattle.bitset.specs.Members.{has, ◌∈◌, ◌⊆◌, ◌∖◌, Lowest}
-use Rattle.bitset.proofs.Subsets.{subset-lt, same_test}
+use Rattle.bitset.proofs.Subsets.{subset-le, subset-lt, same_test}
 use Rattle.bitset.proofs.Size.{lowest-trailing}
 use Rattle.bitset.proofs.Sets.{∈-dec, not-zero, in_and, in-or, in-minus, minus-⊆, minus-part, in-single, empty-or-member}
-use Rattle.bitset.proofs.Results.{in_without, in-difference}
-use Rattle.bitset.proofs.Scans.{Less, lowest-lt}
+use Rattle.bitset.proofs.Results.{in_without, in-difference, in-intersection, in-union}
+use Rattle.bitset.proofs.Scans.{Less, less-lowest, lowest-lt}
 use Rattle.spread.specs.Spread.{ClosedInside}
 use Rattle.spread.proofs.Rounds.{Spread, Finds, spread-first, spread-on}
 use Rattle.adjacency.specs.Adjacency.{Mutual}
@@ -106,6 +107,31 @@ module _ (adjacent : List ℕ) (within start others : ℕ) where
   })
 
   module _ (missing fresh left : ℕ) (s : Search adjacent within start others missing fresh left) where
+    -- The lowest of the fresh nodes is below the width, if there is one.
+    pub fresh-lt : (w k : ℕ) → within < 2 ^ w → (fresh ≡ 0 → ⊥) → Lowest w fresh k → k < w
+    fresh-lt w k small some low =
+        let inside : fresh ⊆ within = λ v m. minus-⊆ within left v (s.spread.part v m) in
+        lowest-lt w fresh k (lt_of_le_of_lt (subset-le fresh within inside) small) some low
+
+    -- To look at it is a turn, by what the methods of the sets give.
+    pub looked : (w node unseen found missing' fresh' left' : ℕ) → within < 2 ^ w → (fresh ≡ 0 → ⊥) → Lowest w fresh node
+        → ((j : ℕ) → Lowest w fresh j → (k : ℕ) → has unseen k ≡ has fresh k && not (eqb k j))
+        → ((j : ℕ) → has found j ≡ has (get_or adjacent node 0) j && has left j)
+        → ((j : ℕ) → has left' j ≡ has left j && not (has found j))
+        → ((j : ℕ) → has missing' j ≡ has missing j && not (has found j))
+        → ((j : ℕ) → has fresh' j ≡ has unseen j || has found j)
+        → Turn adjacent missing fresh left missing' fresh' left'
+    looked w node unseen found missing' fresh' left' small some low drops met rest lacks more = record {
+      node = node;
+      unseen = unseen;
+      found = found;
+      less = less-lowest w fresh node unseen low (fresh-lt w node small some low) (drops node low);
+      in-found = in-intersection (get_or adjacent node 0) left found met;
+      in_left = in-difference left found left' rest;
+      in-missing = in-difference missing found missing' lacks;
+      in-fresh = in-union unseen found fresh' more;
+    }
+
     module _ (missing' fresh' left' : ℕ) (t : Turn adjacent missing fresh left missing' fresh' left') where
       -- The nodes that are no longer left.
       in-gone : (w : ℕ) → (w ∈ (within ∖ left')) ↔ ((w ∈ (within ∖ left)) ⊎ (w ∈ t.found))

@@ -12,6 +12,7 @@ ghost use Rattle.adjacency.specs.Adjacency.{Adjacency};
 ghost use Rattle.parts.specs.Parts.{PartOf, Hangs};
 
 use node_set::{NODES, NodeSet, NodeWord};
+use sets::BitSet;
 
 // The nodes that hang together with the lowest target by adjacent nodes of the set: all of them, or as many as have all targets among them.
 fn part_of(adjacent: &[NodeWord; NODES], within: NodeSet, targets: NodeSet) -> NodeSet
@@ -21,13 +22,8 @@ fn part_of(adjacent: &[NodeWord; NODES], within: NodeSet, targets: NodeSet) -> N
     let mut missing = targets.without_lowest();
     let mut fresh = targets.difference(missing);
     let mut left = within.difference(fresh);
-    loop {
-        if missing.is_empty() {
-            return within.difference(left);
-        }
-        if fresh.is_empty() {
-            return within.difference(left);
-        }
+    // What is found is fresh too: the set grows while it is gone through.
+    while !missing.is_empty() && !fresh.is_empty() {
         let slot = fresh.lowest() as usize;
         let row = adjacent[slot];
         let found = NodeSet(row).intersection(left);
@@ -36,6 +32,7 @@ fn part_of(adjacent: &[NodeWord; NODES], within: NodeSet, targets: NodeSet) -> N
         let others = fresh.without_lowest();
         fresh = others.union(found);
     }
+    within.difference(left)
 }
 
 // What the sink reaches once v has joined. Before, all of the rest but v hung on it: so if the rest without v falls into parts, each of
@@ -52,6 +49,7 @@ pub fn rest_without(adjacent: &[NodeWord; NODES], rest: NodeSet, v: u32, sink: u
     let slot = v as usize;
     let row = adjacent[slot];
     let mut near = NodeSet(row).intersection(left);
+    // A part has several of the neighbours at once, and so they are not gone through one by one.
     loop {
         let part = part_of(adjacent, left, near);
         near = near.difference(part);

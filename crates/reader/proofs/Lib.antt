@@ -1,2 +1,3 @@
 -- The reader's steps over plain values.
-pub mod Offsets
+pub mod Operands
+pub mod Outcomes

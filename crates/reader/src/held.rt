@@ -1,7 +1,7 @@
 // The plan held beside an offset. The reader sees no byte but through it: `next` hands slice and offset to `command_at`, which looks
 // at no byte past the plan's last. Callers use `next_command`, whose parameters are plain.
 ghost use Rattle.std.specs.Prelude.{◌≡◌, drop};
-ghost use Rattle.format.specs.Format.{step_of};
+ghost use Rattle.format.specs.Format.{step_of, outcome_of};
 
 use crate::command::command_at;
 use format::{Awaited, Step};
@@ -21,14 +21,14 @@ fn reader_at<'a>(plan: &'a [u8], at: usize) -> Reader<'a>
 
 // The command at the reader's offset.
 fn next<'a>(reader: Reader<'a>, awaited: Awaited) -> Step
-    ensures { result ≡ step_of awaited (drop reader.entry.at reader.entry.plan.now) }
+    ensures { outcome_of result ≡ step_of awaited (drop reader.entry.at reader.entry.plan.now) }
 {
     command_at(reader.plan, reader.at, awaited)
 }
 
 // The command at an offset of a plan, read through a `Reader`.
 pub(crate) fn next_command(plan: &[u8], at: usize, awaited: Awaited) -> Step
-    ensures { result ≡ step_of awaited (drop at plan.now) }
+    ensures { outcome_of result ≡ step_of awaited (drop at plan.now) }
 {
     next(reader_at(plan, at), awaited)
 }

@@ -3,10 +3,10 @@
 --
 --   EventCase p log i r  event i and its fault r, where the edges p are present
 --   LogCase p log r      the log and its fault r
-use mathlib.Core.Bool.{Bool, true, false, not}
+use mathlib.Core.Bool.{Bool, true, false, cond, not, ◌||◌}
 use mathlib.Core.List.{List}
 use mathlib.Core.Logic.{◌⊎◌, inl, inr, ◌↔◌}
-use mathlib.Core.Path.{◌≡◌, refl, sym, ap, subst, ◌∙◌}
+use mathlib.Core.Path.{◌≡◌, refl, sym, ap, ap₂, subst, ◌∙◌}
 use Prim.Native.Nat.{ℕ, suc, ◌-◌, ◌%◌, ◌^◌, ◌<◌, zero-le}
 use native.Mathlib.Decide.{ℕ_discrete}
 use native.Mathlib.Omega.{arith}
@@ -14,11 +14,17 @@ use borrow.Author.Tests.{eq-eqb, ne_eqb, eqb-true, not-false}
 use denote.Floats.{passes}
 use lib.Dec.{T, eqb}
 use lib.ListN.{length}
+use Rattle.std.specs.Prelude.{Result, Ok, Err}
 use Rattle.sequences.proofs.Tests.{T-or, T-eqb}
 use Rattle.bitset.specs.Members.{has, ◌∈◌, ◌⊆◌, insert, ◌∖◌}
+use Rattle.network.specs.declared.refusal.Refusal.{Refusal}
+use Rattle.network.specs.declared.refusal.Refusal.TheVariants.{BadEvent}
+use Rattle.network.specs.Refusals.{refusal_of}
 use Rattle.network.specs.Record.{◌when◌, ◌then◌}
 use Rattle.network.proofs.Refusals.{then-none, none_then, some_then, when-none, none-when, some-when, row-none, none_row, row_first, row_step}
-use Rattle.replay.specs.Log.{event_count, command_at, edge_at, changed, is_command, event_fault, events_fault, log_fault, Command, GoodEvents, LogRules}
+use Rattle.replay.specs.declared.Change.{Change}
+use Rattle.replay.specs.declared.Change.TheVariants.{Down, Up}
+use Rattle.replay.specs.Log.{event_count, command_at, edge_at, changed, is_command, change_of, event_fault, events_fault, log_fault, Command, GoodEvents, LogRules}
 
 -- ---- what an event changes
 
@@ -30,6 +36,44 @@ changed-down c d k e = ap (λ (x : ℕ). changed x d k) e
 pub changed-up : (c d k : ℕ) → (c ≡ 0x44 → ⊥) → changed c d k ≡ d ∖ 2 ^ k
 unfolding changed
 changed-up c d k f = ap (λ (b : Bool). elim b [ true ↦ insert d k | false ↦ d ∖ 2 ^ k ]) (ne_eqb c 0x44 f)
+
+-- ---- commands
+
+-- What is read by the two tests.
+abbrev read : Bool → Bool → Result Change Refusal
+read a b = cond a (Ok Down) (cond b (Ok Up) (Err BadEvent))
+
+-- A byte is read as down exactly if it is its command;
+pub down-command : (c : ℕ) → Ok Down ≡ change_of c → c ≡ 0x44
+unfolding change_of
+down-command c = go (eqb c 0x44) (eqb c 0x55) refl
+  where
+    go : (a b : Bool) → eqb c 0x44 ≡ a → Ok Down ≡ read a b → c ≡ 0x44
+    go true b x e = eqb-true c 0x44 x
+    go false true x e = absurd (cc)
+    go false false x e = absurd (cc)
+
+pub command-down : (c : ℕ) → c ≡ 0x44 → change_of c ≡ Ok Down
+unfolding change_of
+command-down c e = ap (λ a. read a (eqb c 0x55)) (eq-eqb c 0x44 e)
+
+pub command-up : (c : ℕ) → (c ≡ 0x44 → ⊥) → c ≡ 0x55 → change_of c ≡ Ok Up
+unfolding change_of
+command-up c f e = ap₂ read (ne_eqb c 0x44 f) (eq-eqb c 0x55 e)
+
+pub command_none : (c : ℕ) → (c ≡ 0x44 → ⊥) → (c ≡ 0x55 → ⊥) → change_of c ≡ Err BadEvent
+unfolding change_of
+command_none c f g = ap₂ read (ne_eqb c 0x44 f) (ne_eqb c 0x55 g)
+
+-- it is refused exactly if it is neither command.
+pub change-fault : (c : ℕ) → refusal_of (change_of c) ≡ (16 when not (is_command c))
+unfolding change_of ◌when◌
+change-fault c = go (eqb c 0x44) (eqb c 0x55)
+  where
+    go : (a b : Bool) → refusal_of (read a b) ≡ (16 when not (a || b))
+    go true b = refl
+    go false true = refl
+    go false false = refl
 
 -- ---- an event's fault
 

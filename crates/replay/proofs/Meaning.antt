@@ -13,21 +13,24 @@ use native.Mathlib.Omega.{arith}
 use borrow.Author.Tests.{ltb-false, lt-ltb, le-ltb}
 use lib.Dec.{T, ltb}
 use lib.ListN.{length, get_or}
+use Rattle.std.specs.Prelude.{Result, Ok, Err}
+use Rattle.std.specs.Result.{IsErrAnd}
 use Rattle.sequences.specs.Words.{onto}
 use Rattle.sequences.proofs.Places.{length-tabulate, get_or-tabulate}
 use Rattle.sequences.proofs.Words.{get_or-onto, drop-onto, length-onto}
 use Rattle.network.specs.declared.Network.{Network}
+use Rattle.network.specs.declared.refusal.Refusal.{Refusal}
+use Rattle.network.specs.Refusals.{number_of}
 use Rattle.network.specs.Record.{◌when◌, ◌then◌, fault_of, present, Stored}
 use Rattle.network.specs.Rules.{Rules}
-use Rattle.network.proofs.Refusals.{then-none, none_then, some_then, when-none, none-when, some-when, refused-some}
+use Rattle.network.proofs.Refusals.{number-some, then-none, none_then, some_then, when-none, none-when, some-when, refused-some}
 use Rattle.network.proofs.Rules.{fault-rules}
 use Rattle.graph.specs.Reach.{Bounded}
 use Rattle.graph.specs.CutTests.{severed}
 use Rattle.graph.proofs.Cuts.{severed-silenced, holds-silenced}
 use Rattle.graph.proofs.Sound.{accepted-sound}
-use Rattle.replay.specs.declared.Replayed.{Replayed}
 use Rattle.replay.specs.Log.{event_count, down_after, log_fault, LogRules}
-use Rattle.replay.specs.Replay.{byte_of, silent_bytes, replay_refusal, replayed_by, silent_after, Tells, ReplayMeans}
+use Rattle.replay.specs.Replay.{byte_of, silent_bytes, replay_refusal, Replayed, replayed, replayed_by, silent_after, Tells, ReplayMeans}
 use Rattle.replay.proofs.Events.{log-rules}
 
 -- What the call answers and leaves.
@@ -42,6 +45,12 @@ module _ (N : Network) (log lent : List ℕ) where
   unfolding replayed_by silent_after
   replay-refused r e some =
       rw (← e, refused-some r (event_count log) 0 some, refused-some r (onto (silent_bytes N log) lent) lent some) (refl, refl)
+
+  -- So does one that is passed on.
+  pub replay-passed : (a : Result ℕ Refusal) (r : Refusal) → IsErrAnd a (λ e. e ≡ r) → number_of r ≡ replay_refusal N log lent
+      → Answered N log lent (replayed a) lent
+  replay-passed (Ok n) r h e = absurd h
+  replay-passed (Err q) r h e = replay-refused (number_of q) (ap number_of h ∙ e) (number-some q)
 
   -- Without one a byte for each event stands in them.
   pub replay-played : (after : List ℕ) → replay_refusal N log lent ≡ 0 → after ≡ onto (silent_bytes N log) lent

@@ -7,15 +7,20 @@
 --   changed c d k        the edges down after the event of command c and edge k, where d were down before it
 --   down_after log n     the edges down after the first n events
 --   is_command c         whether c is 44 (hexadecimal), down, or 55, up
+--   change_of c          what it says as a command: a change, or the refusal 16  [working]
 --   event_fault p c k    the fault of an event of command c and edge k, where the edges p are present
 --   events_fault p log i n   the first fault of the n events from i on
 --   log_fault p log      the log's first fault, 0 if it has none
 --   Command log i        event i has a command
 --   GoodEvents p log n   each of the first n events has a command, and an edge of p
 --   LogRules p log       the log has whole events alone, all of them good
-use Rattle.std.specs.Prelude.{Bool, true, false, not, ◌||◌, List, ◌⊎◌, ◌≡◌, ℕ, zero, suc, ◌+◌, ◌*◌, ◌/◌, ◌%◌, ◌^◌, ◌<◌, eqb, length, get_or}
+use Rattle.std.specs.Prelude.{Bool, true, false, cond, not, ◌||◌, List, Result, Ok, Err, ◌⊎◌, ◌≡◌, ℕ, zero, suc, ◌+◌, ◌*◌, ◌/◌, ◌%◌, ◌^◌, ◌<◌, eqb, length, get_or}
 use Rattle.bitset.specs.Members.{has, insert, ◌∖◌, ◌∈◌}
+use Rattle.network.specs.declared.refusal.Refusal.{Refusal}
+use Rattle.network.specs.declared.refusal.Refusal.TheVariants.{BadEvent}
 use Rattle.network.specs.Record.{◌when◌, ◌then◌, first_fault}
+use Rattle.replay.specs.declared.Change.{Change}
+use Rattle.replay.specs.declared.Change.TheVariants.{Down, Up}
 
 -- Half an event at the end does not count.
 abbrev pub event_count : List ℕ → ℕ
@@ -42,6 +47,9 @@ down_after log (suc n) = changed (command_at log n) (down_after log n) (edge_at 
 
 abbrev pub is_command : ℕ → Bool
 is_command c = eqb c 0x44 || eqb c 0x55
+
+unfoldable pub change_of : ℕ → Result Change Refusal
+change_of c = cond (eqb c 0x44) (Ok Down) (cond (eqb c 0x55) (Ok Up) (Err BadEvent))
 
 -- 16: an unknown command; 17: a cable not present
 unfoldable pub event_fault : ℕ → ℕ → ℕ → ℕ

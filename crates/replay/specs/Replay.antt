@@ -5,18 +5,21 @@
 --   silent_byte N log i          whether the room is silent after event i
 --   silent_bytes N log           the same for each event of the log  [computed: bytes_count, bytes-tell (replay/proofs/Meaning)]
 --   replay_refusal N log lent    the call's refusal for a network, a log and lent bytes, 0 if there is none
+--   Replayed                     a call's answer as numbers: the refusal, 0 if there is none, beside the count of bytes, 0 on refusal
+--   replayed a                   the answer a of the call as such numbers
 --   replayed_by N log lent       its answer
 --   silent_after N log lent      the lent bytes afterwards
 --   Tells N d b                  the byte b tells whether the room is silent where the edges d are down
 --   ReplayMeans N log lent r n after     what it means that the call, lent `lent`, gave the refusal r and the count n and left `after`
-use Rattle.std.specs.Prelude.{Bool, true, false, List, ◌↔◌, ◌≡◌, ℕ, suc, ◌*◌, ◌≤◌, ◌<◌, ltb, length, get_or, drop}
+use Rattle.std.specs.Prelude.{Bool, true, false, List, Result, ◌↔◌, ◌≡◌, ℕ, suc, ◌*◌, ◌≤◌, ◌<◌, ltb, length, get_or, drop}
 use Rattle.sequences.specs.Words.{tabulate, onto}
 use Rattle.network.specs.declared.Network.{Network}
+use Rattle.network.specs.declared.refusal.Refusal.{Refusal}
+use Rattle.network.specs.Refusals.{refusal_of, answer_of}
 use Rattle.network.specs.Record.{◌when◌, ◌then◌, unless_refused, fault_of, present, Stored}
 use Rattle.network.specs.Rules.{Rules}
 use Rattle.graph.specs.Cuts.{Silenced, HoldsMincut}
 use Rattle.graph.specs.CutTests.{severed}
-use Rattle.replay.specs.declared.Replayed.{Replayed}
 use Rattle.replay.specs.Log.{event_count, down_after, log_fault, LogRules}
 
 abbrev pub byte_of : Bool → ℕ
@@ -33,6 +36,13 @@ silent_bytes N log = tabulate (event_count log) (silent_byte N log)
 -- The record's first fault, then 18: more whole events than bytes lent; then the log's first fault
 unfoldable pub replay_refusal : Network → List ℕ → List ℕ → ℕ
 replay_refusal N log lent = fault_of N then 18 when ltb (length lent) (event_count log) then log_fault (present N) log
+
+pub record Replayed : Type 0 where
+  pub refusal : ℕ
+  pub count : ℕ
+
+abbrev pub replayed : Result ℕ Refusal → Replayed
+replayed a = record { refusal = refusal_of a; count = answer_of 0 a }
 
 unfoldable pub replayed_by : Network → List ℕ → List ℕ → Replayed
 replayed_by N log lent =

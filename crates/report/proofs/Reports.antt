@@ -1,26 +1,30 @@
 -- What is reported, by what the reader and the list call answer.
 -- Assumes nothing.
-use mathlib.Core.Path.{◌≡◌, sym, ap, ◌∙◌}
+--
+--   ReportedBy s cuts sides a   what a plan's report is, by what its list came to and the rows that were left
+use mathlib.Core.Path.{◌≡◌, refl, sym, ap, ◌∙◌}
 use mathlib.Core.List.{List}
 use Prim.Native.Nat.{ℕ, ◌≤◌, ◌<◌}
 use native.Mathlib.Decide.{dec_lt}
 use native.Mathlib.Omega.{arith}
 use borrow.Author.Tests.{lt-ltb, le-ltb}
-use lib.ListN.{length, take, replicate, length-map, length-replicate, length-take}
+use lib.ListN.{length, take, length-map, length-take}
 use lib.Seq.{take_at, take_all}
+use Rattle.std.specs.Prelude.{Result, Ok, Err, MatchResult}
+use Rattle.std.specs.Result.{IsErrAnd}
 use Rattle.sequences.specs.Words.{onto}
 use Rattle.network.specs.declared.Network.{Network}
 use Rattle.network.specs.Record.{unless_refused, fault_of}
-use Rattle.network.proofs.Refusals.{refused_none, refused-some}
-use Rattle.format.specs.declared.Decoded.{Decoded}
-use Rattle.format.specs.Format.{decode_of}
+use Rattle.network.specs.declared.refusal.Refusal.{Refusal}
+use Rattle.network.specs.Refusals.{number_of}
+use Rattle.network.proofs.Refusals.{number-some, refused_none, refused-some}
+use Rattle.format.specs.Format.{Decoded, decoded, decode_of}
 use Rattle.format.proofs.Reading.{decode-plan}
 use Rattle.format.proofs.Prefix.{decode-prefix}
 use Rattle.text.specs.Text.{refusal_line, list_text, max_rows}
 use Rattle.text.specs.Written.{Printed}
 use Rattle.graph.specs.Relevant.{source_side_of}
-use Rattle.listing.specs.declared.Listed.{Listed}
-use Rattle.listing.specs.List.{mincuts, source_sides, list_refusal, listed_by, cut_rows_after, side_rows_after}
+use Rattle.listing.specs.List.{Listed, listed, mincuts, source_sides, list_refusal, listed_by, cut_rows_after, side_rows_after}
 use Rattle.listing.proofs.Refusals.{refusal-outnumbered, refusal-none}
 use Rattle.report.specs.Report.{list_report, report_of, Reported}
 
@@ -76,10 +80,6 @@ module _ (N : Network) (cuts sides : List ℕ) where
 
 -- ---- the program
 
--- The program lends so many rows.
-pub lent_rows : length (replicate {A = ℕ} max_rows 0) ≡ max_rows
-lent_rows = length-replicate {A = ℕ} max_rows 0
-
 module _ (s : List ℕ) (d : Decoded) (read : d ≡ decode_of s) where
   -- The report of the bytes is that of the answer.
   report-by : report_of s ≡ unless_refused d.refusal (list_report d.network) (refusal_line d.refusal)
@@ -108,6 +108,30 @@ module _ (s : List ℕ) (d : Decoded) (read : d ≡ decode_of s) where
     pub report-listed : {cuts' sides' : List ℕ} → cuts' ≡ cut_rows_after d.network cuts sides → sides' ≡ side_rows_after d.network cuts sides
         → l.refusal ≡ 0 → report_of s ≡ list_text (take l.count cuts') (take l.count sides')
     report-listed p q z = report-network ∙ case-listed d.network cuts sides l answer p q (call-case d.network cuts sides accepted c t) z
+
+-- What a plan's report is, by what its list came to: n rows, or a refusal.
+abbrev pub ReportedBy : List ℕ → List ℕ → List ℕ → Result ℕ Refusal → Type 0
+ReportedBy s cuts sides a = MatchResult a (λ n. report_of s ≡ list_text (take n cuts) (take n sides)) (λ r. report_of s ≡ refusal_line (number_of r))
+
+-- A refusal that is passed on is reported.
+pub report-passed : (s cuts sides : List ℕ) (a : Result ℕ Refusal) (r : Refusal) → IsErrAnd a (λ e. e ≡ r)
+    → report_of s ≡ refusal_line (number_of r) → ReportedBy s cuts sides a
+report-passed s cuts sides (Ok n) r h e = absurd h
+report-passed s cuts sides (Err q) r h e = e ∙ ap (λ (x : Refusal). refusal_line (number_of x)) (sym h)
+
+-- So is what the list call gives for the network that was read.
+module _ (s : List ℕ) (N : Network) (read : decoded (Ok N) ≡ decode_of s) (cuts sides : List ℕ) (c : length cuts ≡ max_rows) (t : length sides ≡ max_rows) where
+  pub report-answered : (a : Result ℕ Refusal) {cuts' sides' : List ℕ} → listed a ≡ listed_by N cuts sides
+      → cuts' ≡ cut_rows_after N cuts sides → sides' ≡ side_rows_after N cuts sides → ReportedBy s cuts' sides' a
+  report-answered (Ok n) answer p q = report-listed s (decoded (Ok N)) read refl cuts sides c t (listed (Ok n)) answer p q refl
+  report-answered (Err r) answer p q = report-refused s (decoded (Ok N)) read refl cuts sides c t (listed (Err r)) answer (number-some r)
+
+-- What is printed by what the list came to is the report.
+pub report-printed : (s cuts sides : List ℕ) (a : Result ℕ Refusal) {b p : List ℕ} {r : ℕ} → ReportedBy s cuts sides a
+    → MatchResult a (λ n. Printed (list_text (take n cuts) (take n sides)) b p r) (λ q. Printed (refusal_line (number_of q)) b p r)
+    → Printed (report_of s) b p r
+report-printed s cuts sides (Ok n) e h = rw e h
+report-printed s cuts sides (Err q) e h = rw e h
 
 -- The first 521 bytes decide what is reported.
 pub report-prefix : (s : List ℕ) → report_of (take 521 s) ≡ report_of s

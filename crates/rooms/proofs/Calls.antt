@@ -10,24 +10,27 @@ use Prim.Native.Nat.{ℕ, ◌^◌, ◌≤◌, ◌<◌}
 use native.Mathlib.Omega.{arith}
 use borrow.Author.Tests.{not-false}
 use denote.Floats.{passes}
-use lib.ListN.{length, get_or, replicate, take, length-take}
+use lib.ListN.{length, replicate, take, length-take}
+use Rattle.std.specs.Prelude.{Option, Result, Ok, Err}
+use Rattle.std.specs.Result.{IsErrAnd}
 use Rattle.sequences.specs.Rising.{arranged}
 use Rattle.sequences.specs.Words.{onto}
-use Rattle.sequences.proofs.Places.{mem-at}
 use Rattle.sequences.proofs.Rising.{arranged-unique}
-use Rattle.bitset.specs.Members.{◌∈◌, members}
+use Rattle.bitset.specs.Members.{members}
 use Rattle.bitset.proofs.MemberList.{in_members, members-rising}
 use Rattle.bitset.proofs.Sets.{member-lt}
 use Rattle.node_set.specs.Width.{node_width}
 use Rattle.network.specs.declared.Network.{Network}
 use Rattle.network.specs.Record.{◌when◌, fault_of}
-use Rattle.network.proofs.Refusals.{then-none, when-none, refused-some, refused_none}
-use Rattle.listing.specs.declared.Listed.{Listed}
-use Rattle.rooms.specs.declared.Asked.{Asked}
+use Rattle.network.specs.declared.refusal.Refusal.{Refusal}
+use Rattle.network.specs.Refusals.{number_of}
+use Rattle.network.proofs.Refusals.{number-some, then-none, when-none, refused-some, refused_none}
+use Rattle.listing.specs.List.{Listed, listed}
+use Rattle.rooms.specs.declared.asked.Asked.{Asked}
 use Rattle.rooms.specs.declared.Extent.{Extent}
 use Rattle.rooms.specs.Silences.{Package}
 use Rattle.rooms.specs.Rooms.{packaged, package_fault, sets_for, needs, rooms_refusal, rooms_listed_by, rooms_rows_after, work_after}
-use Rattle.rooms.specs.Steps.{Packaged, Rooms, Taken, Delivered}
+use Rattle.rooms.specs.Steps.{Packaged, counted, Taken, Delivered}
 use Rattle.rooms.proofs.Packages.{packaged-iff}
 use Rattle.rooms.proofs.Refusals.{Case, faulty, no-package, short, outnumbered, complete, call-case, package-faulty, package-none, package-19, refusal-first, refusal-short, refusal-outnumbered, refusal-complete}
 
@@ -41,18 +44,6 @@ unfolding package_fault
 asked-package N ts none =
     let (ok, fit) = then-none (fault_of N) (19 when not (packaged N ts)) none in
     (ok, (packaged-iff N ts).0 (passes (packaged N ts) (not-false (packaged N ts) (when-none 19 (not (packaged N ts)) (omega arith) fit))))
-
--- As a set they are rooms that can be taken.
-pub asked-rooms : (N : Network) (ts : List ℕ) {a : Asked} → Packaged N ts a → a.refusal ≡ 0 → Rooms N a.rooms.0
-asked-rooms N ts {a} p none =
-    let (ok, k) = asked-package N ts (sym p.refusal ∙ none) in
-    let in_list : (t : ℕ) → t ∈ a.rooms.0 → Memᴰ t ts = λ t. (p.rooms none t).0 in
-    record {
-      accepted = ok;
-      some = (get_or ts 0 0, (p.rooms none (get_or ts 0 0)).1 (mem-at ts 0 0 k.some));
-      points = λ t m. k.points t (in_list t m);
-      others = λ t m. k.rooms t (in_list t m);
-    }
 
 module _ (e : Extent) (N : Network) (ts cuts work : List ℕ) where
   -- The answer and the rows for cuts under a refusal.
@@ -88,6 +79,12 @@ module _ (e : Extent) (N : Network) (ts cuts work : List ℕ) where
       let (answer, rows) = refused r (refusal-first e N ts cuts work first ∙ sym is) some in
       (answer, rows, work-kept first)
 
+  -- A refusal of theirs that is passed on is the call's.
+  pub answered-passed : (a : Result ℕ Refusal) (r : Refusal) → IsErrAnd a (λ e. e ≡ r) → number_of r ≡ package_fault N ts
+      → RoomsAnswered e N ts cuts work (listed a) cuts work
+  answered-passed (Ok n) r h is = absurd h
+  answered-passed (Err q) r h is = answered-first (number_of q) (ap number_of h ∙ is) (number-some q)
+
   module _ (ok : fault_of N ≡ 0) (k : Package N ts) where
     -- The rest sets the work rows to 0.
     pub answered-short : (n : ℕ) × (Memᴰ n (needs e N ts) × (length work < n))
@@ -112,45 +109,50 @@ module _ (e : Extent) (N : Network) (ts cuts work : List ℕ) where
 
   -- ---- the steps of the call
 
-  module _ {a : Asked} (p : Packaged N ts a) (none : a.refusal ≡ 0) (small : a.rooms.0 < 2 ^ 64) where
+  -- The sets for the rooms asked for are taken, delivered, and the work rows set to 0.
+  delivered-taken : package_fault N ts ≡ 0 → {taken : List ℕ} {n : ℕ} → Taken e N (arranged ts) (length work) taken n
+      → {l : Listed} {cuts' : List ℕ} → Delivered n taken cuts cuts' l
+      → {work' : List ℕ} → work' ≡ replicate (length taken) 0 → RoomsAnswered e N ts cuts work l cuts' work'
+  delivered-taken none {taken} {n} t {l} {cuts'} d {work'} cleared =
+      go (call-case e N ts cuts work) (cleared ∙ ap (λ k. replicate k 0) t.size)
+    where
+      in-front : ((n : ℕ) → Memᴰ n (needs e N ts) → n ≤ length work)
+          → (n ≡ length (sets_for e N (arranged ts))) × (n ≤ length taken) × (take n taken ≡ sets_for e N (arranged ts))
+      in-front s =
+          let (is, front) = t.enough s in
+          (is, omega (arith, ap length front, length-take n taken), front)
+
+      -- What was delivered and left is what it is to be.
+      agrees : {b : Listed} {rows work'' : List ℕ} → RoomsAnswered e N ts cuts work b rows work'' → (l ≡ b) × (cuts' ≡ rows) → work' ≡ work''
+          → RoomsAnswered e N ts cuts work l cuts' work'
+      agrees answered (same, rows) zeros = (same ∙ answered.0, rows ∙ answered.1, zeros ∙ answered.2)
+
+      go : Case e N ts cuts work → work' ≡ replicate (length work) 0 → RoomsAnswered e N ts cuts work l cuts' work'
+      go (faulty f) zeros = absurd (f (sym (package-faulty e N ts cuts work f) ∙ none))
+      go (no-package ok f) zeros = absurd (omega (arith, package-19 e N ts cuts work ok f, none))
+      go (short ok q (k, (m, h))) zeros =
+          agrees (answered-short ok q (k, (m, h))) (d.short (omega (arith, t.short k m h, t.size))) zeros
+      go (outnumbered ok q s h) zeros =
+          let (is, few, front) = in-front s in
+          agrees (answered-outnumbered ok q s h) (d.outnumbered few (omega arith)) zeros
+      go (complete ok q s h) zeros =
+          let (is, few, front) = in-front s in
+          let left = d.complete few (omega arith) in
+          agrees (answered-complete ok q s h) (left.0 ∙ ap (λ k. record { refusal = 0; count = k }) is, left.1 ∙ ap (λ k. onto k cuts) front) zeros
+
+  module _ {a : Asked} (p : Packaged N ts (Ok a)) (small : a.rooms.0 < 2 ^ 64) where
     -- The rooms, lowest first, are those asked for in rising order.
     in_order : members node_width a.rooms.0 ≡ arranged ts
     in_order =
         sym (arranged-unique ts (members node_width a.rooms.0) (members-rising node_width a.rooms.0) (λ v.
         Iff.trans (in_members node_width a.rooms.0 v) (
-          λ (m, h). (p.rooms none v).0 m,
-          λ m. let i = (p.rooms none v).1 m in (i, member-lt node_width a.rooms.0 v small i),
+          λ (m, h). (p.rooms v).0 m,
+          λ m. let i = (p.rooms v).1 m in (i, member-lt node_width a.rooms.0 v small i),
         )))
 
-    -- The sets are taken, delivered, and the work rows set to 0.
-    pub answered-taken : {taken : List ℕ} {n : ℕ} → Taken e N (members node_width a.rooms.0) (length work) taken n
-        → {l : Listed} {cuts' : List ℕ} → Delivered n taken cuts cuts' l
+    pub answered-taken : {taken : List ℕ} (n : Option ℕ)
+        → Taken e a.accepted.network (members node_width a.rooms.0) (length work) taken (counted (length work) n)
+        → {l : Listed} {cuts' : List ℕ} → Delivered (counted (length taken) n) taken cuts cuts' l
         → {work' : List ℕ} → work' ≡ replicate (length taken) 0 → RoomsAnswered e N ts cuts work l cuts' work'
-    answered-taken {taken} {n} t {l} {cuts'} d {work'} cleared =
-        let t' : Taken e N (arranged ts) (length work) taken n = rw in_order at t in
-        go (call-case e N ts cuts work) t' (cleared ∙ ap (λ k. replicate k 0) t'.size)
-      where
-        counted : ((n : ℕ) → Memᴰ n (needs e N ts) → n ≤ length work) → Taken e N (arranged ts) (length work) taken n
-            → (n ≡ length (sets_for e N (arranged ts))) × (n ≤ length taken) × (take n taken ≡ sets_for e N (arranged ts))
-        counted s t' =
-            let (is, front) = t'.enough s in
-            (is, omega (arith, ap length front, length-take n taken), front)
-
-        -- What was delivered and left is what it is to be.
-        agrees : {b : Listed} {rows work'' : List ℕ} → RoomsAnswered e N ts cuts work b rows work'' → (l ≡ b) × (cuts' ≡ rows) → work' ≡ work''
-            → RoomsAnswered e N ts cuts work l cuts' work'
-        agrees answered (same, rows) zeros = (same ∙ answered.0, rows ∙ answered.1, zeros ∙ answered.2)
-
-        go : Case e N ts cuts work → Taken e N (arranged ts) (length work) taken n → work' ≡ replicate (length work) 0
-            → RoomsAnswered e N ts cuts work l cuts' work'
-        go (faulty f) t' zeros = absurd (f (sym (package-faulty e N ts cuts work f) ∙ sym p.refusal ∙ none))
-        go (no-package ok f) t' zeros = absurd (omega (arith, package-19 e N ts cuts work ok f, p.refusal, none))
-        go (short ok q (k, (m, h))) t' zeros =
-            agrees (answered-short ok q (k, (m, h))) (d.short (omega (arith, t'.short k m h, t'.size))) zeros
-        go (outnumbered ok q s h) t' zeros =
-            let (is, few, front) = counted s t' in
-            agrees (answered-outnumbered ok q s h) (d.outnumbered few (omega arith)) zeros
-        go (complete ok q s h) t' zeros =
-            let (is, few, front) = counted s t' in
-            let left = d.complete few (omega arith) in
-            agrees (answered-complete ok q s h) (left.0 ∙ ap (λ k. record { refusal = 0; count = k }) is, left.1 ∙ ap (λ k. onto k cuts) front) zeros
+    answered-taken n t d cleared =
+        delivered-taken (sym p.refusal) (rw (in_order, p.network) at t) (rw t.size at d) cleared

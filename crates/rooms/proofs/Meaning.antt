@@ -17,8 +17,7 @@ use Rattle.network.specs.declared.Network.{Network}
 use Rattle.network.specs.Record.{Stored, fault_of}
 use Rattle.clutters.specs.Clutters.{unions}
 use Rattle.clutters.proofs.Clutters.{tidy-few, unions-count}
-use Rattle.listing.specs.declared.Listed.{Listed}
-use Rattle.listing.specs.List.{mincuts}
+use Rattle.listing.specs.List.{Listed, mincuts}
 use Rattle.rooms.specs.declared.Extent.{Extent}
 use Rattle.rooms.specs.declared.Extent.TheVariants.{Any, All}
 use Rattle.rooms.specs.Silences.{to, Silences, Package}

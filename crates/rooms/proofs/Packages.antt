@@ -8,22 +8,30 @@ use mathlib.Core.Bool.{Bool, true, false, not, ◌&&◌}
 use mathlib.Core.List.Memᴰ
 use mathlib.Core.List.{List, [], ◌∷◌, Memᴰ, ◌++◌}
 use mathlib.Core.Logic.{inl, inr, ◌↔◌}
-use Prim.Native.Nat.{ℕ, suc, ◌+◌, ◌≤◌, ◌<◌, zero-le}
+use Prim.Native.Nat.{ℕ, suc, ◌+◌, ◌≤◌, ◌<◌}
 use native.Mathlib.Numerals.{add-one}
 use native.Mathlib.Omega.{arith}
+use denote.Floats.{passes}
 use borrow.Author.Tests.{lt-ltb, le-ltb, lt-leb, le-leb}
 use lib.Dec.{T, eqb, leb, ltb, ltb→lt, lt→ltb, leb→le, le→leb}
 use lib.ListN.{length, get_or, take, drop, drop_of_length-le}
 use lib.Seq.{take-suc, take_all, drop-cons}
+use Rattle.std.specs.Prelude.{Result, Ok, Err}
+use Rattle.std.specs.Result.{IsErrAnd}
 use Rattle.sequences.specs.Distinct.{Distinct}
+use Rattle.sequences.proofs.Places.{mem-at}
 use Rattle.sequences.proofs.Tests.{T_and, T_not, T-then, T-eqb}
 use Rattle.bitset.specs.Members.{◌∈◌, has, insert}
 use Rattle.bitset.proofs.Sets.{in_insert, not-zero}
 use Rattle.network.specs.declared.Network.{Network}
+use Rattle.network.specs.declared.refusal.Refusal.{Refusal}
+use Rattle.network.specs.declared.refusal.Refusal.TheVariants.{BadRooms}
+use Rattle.network.specs.Refusals.{number_of}
 use Rattle.network.specs.Record.{◌when◌, fault_of}
-use Rattle.network.proofs.Refusals.{some_then, none_then, some-when, none-when}
-use Rattle.rooms.specs.declared.Asked.{Asked}
+use Rattle.network.proofs.Refusals.{number-pos, some_then, none_then, some-when, none-when}
+use Rattle.rooms.specs.declared.asked.Asked.{Asked}
 use Rattle.rooms.specs.Silences.{Package}
+use Rattle.rooms.specs.Points.{Rooms}
 use Rattle.rooms.specs.Rooms.{fitting, packaged, package_fault}
 use Rattle.rooms.specs.Steps.{Packaged}
 
@@ -114,7 +122,6 @@ module _ (N : Network) where
 -- ---- the rooms one after the other
 
 pub record Packing (N : Network) (ts : List ℕ) (seen i : ℕ) : Type 0 where
-  pub place : i ≤ length ts
   pub rest : fitting N 0 ts ≡ fitting N seen (drop i ts)
   pub members : (v : ℕ) → (v ∈ seen) ↔ Memᴰ v (take i ts)
 
@@ -126,7 +133,6 @@ module _ (N : Network) (ts : List ℕ) where
   -- At first none is seen.
   pub first-packing : Packing N ts 0 0
   first-packing = record {
-    place = zero-le;
     rest = refl;
     members = λ v. (λ m. absurd (not-zero v m), λ m. absurd (Memᴰ.not-nil m));
   }
@@ -149,7 +155,6 @@ module _ (N : Network) (ts : List ℕ) where
         let on : suc i ≡ i + 1 = sym (add-one i) in
         let more : take (i + 1) ts ≡ take i ts ++ get_or ts i 0 ∷ [] = rw (add-one i) (take-suc ts i 0 h) in
         record {
-          place = omega arith;
           rest =
               packing-step
               ∙ ap (λ b. elim b [ true ↦ fitting N (insert seen (get_or ts i 0)) (drop (suc i) ts) | false ↦ false ]) (sym e ∙ f)
@@ -170,48 +175,73 @@ module _ (N : Network) (ts : List ℕ) where
   -- ---- the answer
 
   -- A record with a fault is refused with it.
-  pub asked-faulty : {r : ℕ} → r ≡ fault_of N → (r ≡ 0 → ⊥) → {a : Asked} → a.refusal ≡ r → Packaged N ts a
+  pub asked-faulty : (a : Result Asked Refusal) (r : Refusal) → IsErrAnd a (λ e. e ≡ r) → number_of r ≡ fault_of N → Packaged N ts a
   unfolding package_fault
-  asked-faulty {r} e some {a} is = record {
-    refusal = is ∙ sym (some_then (fault_of N) (19 when not (packaged N ts)) (omega arith) ∙ sym e);
-    rooms = λ none. absurd (some (sym is ∙ none));
+  asked-faulty (Ok q) r h e = absurd h
+  asked-faulty (Err q) r h e = record {
+    refusal =
+        let is : number_of q ≡ fault_of N = ap number_of h ∙ e in
+        is ∙ sym (some_then (fault_of N) (19 when not (packaged N ts)) (omega (arith, number-pos q)));
+    network = tt;
+    rooms = tt;
   }
 
-  module _ (ok : fault_of N ≡ 0) where
+  module _ (tested : 0 ≡ fault_of N) where
+    ok : fault_of N ≡ 0
+    ok = sym tested
+
     -- What is no package is refused with 19.
-    asked-unfit : packaged N ts ≡ false → {a : Asked} → a.refusal ≡ 19 → Packaged N ts a
+    asked-unfit : packaged N ts ≡ false → Packaged N ts (Err BadRooms)
     unfolding package_fault
-    asked-unfit no-package {a} is = record {
-      refusal = is ∙ sym (none_then (19 when not (packaged N ts)) ok ∙ some-when 19 (ap not no-package));
-      rooms = λ none. absurd (omega (arith, is, none));
+    asked-unfit no-package = record {
+      refusal = sym (none_then (19 when not (packaged N ts)) ok ∙ some-when 19 (ap not no-package));
+      network = tt;
+      rooms = tt;
     }
 
-    pub asked-none : length ts < 1 → {a : Asked} → a.refusal ≡ 19 → Packaged N ts a
+    pub asked-none : length ts ≡ 0 → Packaged N ts (Err BadRooms)
     unfolding packaged
     asked-none h = asked-unfit (rw (le-ltb 0 (length ts) (omega arith)))
 
-    pub asked-many : 8 < length ts → {a : Asked} → a.refusal ≡ 19 → Packaged N ts a
+    pub asked-many : 8 < length ts → Packaged N ts (Err BadRooms)
     unfolding packaged
     asked-many h = asked-unfit (rw (lt-ltb 0 (length ts) (omega arith), lt-leb (length ts) 8 h))
 
-    module _ (some : 1 ≤ length ts) (few : length ts ≤ 8) where
+    module _ (some : length ts ≡ 0 → ⊥) (few : length ts ≤ 8) where
       -- Where there are some and not too many, the test of each decides.
       by-fitting : packaged N ts ≡ fitting N 0 ts
       unfolding packaged
-      by-fitting = rw (lt-ltb 0 (length ts) some, le-leb (length ts) 8 few)
+      by-fitting = rw (lt-ltb 0 (length ts) (omega arith), le-leb (length ts) 8 few)
 
       pub asked-misfit : {seen i : ℕ} → Packing N ts seen i → i < length ts → {b : Bool} → b ≡ fits_next seen i → b ≡ false
-          → {a : Asked} → a.refusal ≡ 19 → Packaged N ts a
+          → Packaged N ts (Err BadRooms)
       asked-misfit t h e f = asked-unfit (by-fitting ∙ packing-unfit t h e f)
 
-      -- After the last room they are a package.
-      pub asked-package : {seen i : ℕ} → Packing N ts seen i → length ts ≤ i → {a : Asked} → a ≡ record { refusal = 0; rooms = record { 0 = seen } }
-          → Packaged N ts a
-      unfolding package_fault fitting
-      asked-package {seen} {i} t h {a} is =
-          let all : take i ts ≡ ts = take_all i ts h in
-          let whole : packaged N ts ≡ true = by-fitting ∙ t.rest ∙ ap (fitting N seen) (drop_of_length-le ts {i = i} h) in
-          rw is (record {
-            refusal = sym (none_then (19 when not (packaged N ts)) ok ∙ none-when 19 (ap not whole));
-            rooms = λ none v. rw all at (t.members v);
-          })
+      module _ {seen i : ℕ} (t : Packing N ts seen i) (h : length ts ≤ i) where
+        -- After the last room they are a package,
+        packing-last : packaged N ts ≡ true
+        unfolding fitting
+        packing-last = by-fitting ∙ t.rest ∙ ap (fitting N seen) (drop_of_length-le ts {i = i} h)
+
+        packing-members : (v : ℕ) → (v ∈ seen) ↔ Memᴰ v ts
+        packing-members = let all : take i ts ≡ ts = take_all i ts h in rw all at t.members
+
+        pub asked-package : {a : Asked} → a.accepted.network ≡ N → a.rooms.0 ≡ seen → Packaged N ts (Ok a)
+        unfolding package_fault
+        asked-package {a} same is = record {
+          refusal = sym (none_then (19 when not (packaged N ts)) ok ∙ none-when 19 (ap not packing-last));
+          network = same;
+          rooms = rw is packing-members;
+        }
+
+        -- and can be taken.
+        pub packed-rooms : Rooms N seen
+        packed-rooms =
+            let k = (packaged-iff N ts).0 (passes (packaged N ts) packing-last) in
+            let in_list : (v : ℕ) → v ∈ seen → Memᴰ v ts = λ v. (packing-members v).0 in
+            record {
+              accepted = ok;
+              some = λ e. not-zero (get_or ts 0 0) (rw e at ((packing-members (get_or ts 0 0)).1 (mem-at ts 0 0 (omega arith))));
+              points = λ v m. k.points v (in_list v m);
+              others = λ v m. k.rooms v (in_list v m);
+            }

@@ -2,28 +2,27 @@
 -- the other.
 -- Assumes, where a list is made, a sound network.
 --
---   Taking e N start left₀ lent rows count left     between two rooms: the sets for the rooms so far stand in front, and the others are left
+--   Taking e N ts lent rows count left      between two of the rooms ts: the sets for those so far stand in front, and the others are left
 use mathlib.Core.Path.{◌≡◌, refl, sym, ap, ◌∙◌}
-use mathlib.Core.Bool.{false}
+use mathlib.Core.Bool.{not, ◌&&◌}
+use lib.Dec.{eqb}
 use mathlib.Core.List.Memᴰ
 use mathlib.Core.List.{List, [], ◌∷◌, ◌++◌, append_assoc, append-nil, Memᴰ}
 use mathlib.Core.Logic.{inl, inr}
 use Prim.Native.Nat.{ℕ, suc, ◌+◌, ◌*◌, ◌-◌, ◌/◌, ◌^◌, min, ◌≤◌, ◌<◌}
 use native.Mathlib.Decide.{dec_lt}
-use native.Mathlib.Nat.{sub-zero, mul-suc, mul_comm, le-div_iff_mul-le}
+use native.Mathlib.Nat.{mul-suc, mul_comm, le-div_iff_mul-le}
 use native.Mathlib.Numerals.{add-one}
 use native.Mathlib.Omega.{arith}
 use borrow.Rule.Slice.PartMut.{mid_of, put_mid, post_of, same_len_mid, mid_len, take_put}
-use lib.ListN.{length, take, drop, set, replicate, drop_of_length-le, length-map, length-take, length-replicate, get_or-replicate}
-use lib.Seq.{length-sets, take_all, take_at, drop_at, take-add, take-append-le, length-take-le}
+use lib.ListN.{length, length-append, take, drop, length-map, length-take}
+use Rattle.std.proofs.Common.{length-drop}
+use lib.Seq.{length-sets, take_at, drop_at, take-add, take-append-le, length-take-le}
 use Rattle.sequences.specs.Words.{onto}
-use Rattle.sequences.proofs.Stores.{onto-next}
 use Rattle.sequences.proofs.Words.{length-onto}
-use Rattle.bitset.specs.Members.{has, ◌∈◌, ◌⊆◌, members, Lowest}
-use Rattle.bitset.proofs.MemberList.{members-first, members-none}
-use Rattle.bitset.proofs.Scans.{Less, lowest-lt}
-use Rattle.bitset.proofs.Sets.{not-zero}
-use Rattle.bitset.proofs.Subsets.{⊆-refl, same_test}
+use Rattle.bitset.specs.Members.{has, ◌∈◌, members, Lowest}
+use Rattle.bitset.proofs.MemberList.{members-first}
+use Rattle.bitset.proofs.Scans.{less-lowest, lowest-lt}
 use Rattle.node_set.specs.Width.{node_width}
 use Rattle.network.specs.declared.Network.{Network}
 use Rattle.network.specs.Record.{fault_of}
@@ -36,7 +35,6 @@ use Rattle.ordering.proofs.Beside.{ascended-sorted}
 use Rattle.clutters.specs.Clutters.{tidy, unions}
 use Rattle.clutters.specs.Steps.{between, United, Tidied}
 use Rattle.clutters.proofs.Clutters.{tidy-same}
-use Rattle.listing.specs.declared.Listed.{Listed}
 use Rattle.listing.specs.List.{mincuts}
 use Rattle.listing.proofs.Rows.{mincuts-count, sorted-mincuts}
 use Rattle.listing.proofs.LentOn.{onto-first, onto-back}
@@ -44,7 +42,8 @@ use Rattle.rooms.specs.declared.Extent.{Extent}
 use Rattle.rooms.specs.declared.Extent.TheVariants.{Any, All}
 use Rattle.rooms.specs.Silences.{to}
 use Rattle.rooms.specs.Rooms.{added, sets_from, sets_for, step_need, room_need, needs_from}
-use Rattle.rooms.specs.Steps.{MostSets, RoomListed, Added, RoomAdded, Rooms, Taken, Delivered}
+use Rattle.rooms.specs.Points.{Rooms}
+use Rattle.rooms.specs.Steps.{MostSets, RoomListed, Added, RoomAdded, Taken}
 use Rattle.rooms.proofs.Sets.{to-accepted}
 
 -- ---- how many sets may come
@@ -79,30 +78,33 @@ module _ (N : Network) (S : Sound N) (lent sides after sides' : List ℕ) (n : �
   put_count = omega (arith, put.count, mincuts-count N S)
 
   -- There are more of them than rows.
-  pub room-outnumbers : length lent < n → RoomListed N lent after n
-  room-outnumbers h = record { size = put-length; count = put_count; listed = λ few. absurd (omega (arith, put_count)) }
+  pub room-outnumbers : length lent < n → RoomListed N lent after (length lent + 1)
+  room-outnumbers h = record { size = put-length; count = omega (arith, put_count); listed = λ few. absurd (omega (arith, put_count)) }
 
   -- There are rows for all: sorted they are the list.
-  pub room-listed : n ≤ length lent → (sorted : List ℕ) → Ascended (take (n - 0) after) sorted → RoomListed N lent (put_mid 0 (n - 0) after sorted) n
-  room-listed h sorted s =
+  pub room-listed : n ≤ length lent → {sorted : List ℕ} → Ascended (take n after) sorted → RoomListed N lent (sorted ++ drop n after) n
+  room-listed h {sorted} s =
       let l : List ℕ = cuts_of (rows N) in
       let count : n ≡ length l = omega (arith, put.count, length-map (rows N) (λ (r : Row). r.0)) in
       let on = put.put-cuts ∙ sets-onto l lent (omega arith) in
       let whole : Ascended l sorted = rw (on, onto-first l lent n count) at s in
       let is : sorted ≡ mincuts N = sorted-mincuts N S l sorted sorted refl (ascended-sorted l sorted whole) in
-      let back : put_mid 0 (n - 0) after sorted ≡ onto sorted lent = rw on (onto-back l lent n count sorted whole.same_length) in
+      let back : sorted ++ drop n after ≡ onto sorted lent = rw on (onto-back l lent n count sorted whole.same_length) in
       record {
-        size = same_len_mid 0 (n - 0) after sorted s.same_length ∙ put-length;
+        size = ap length back ∙ length-onto sorted lent (omega (arith, whole.same_length));
         count = put_count;
         listed = λ few. ap (take n) back ∙ take_at sorted (drop (length sorted) lent) n (whole.same_length ∙ sym count) ∙ is;
       }
 
 -- ---- a list added to another
 
--- The first rows are lent to be tidied up, and come back: what stands in front of them stands in front of all.
-lent-front : (rows new : List ℕ) (m r : ℕ) → m ≤ length rows → length new ≡ length (take (m - 0) rows) → r ≤ length new
-    → take r (put_mid 0 (m - 0) rows new) ≡ take r new
-lent-front rows new m r within size few = take-append-le r new (post_of 0 (m - 0) rows) few
+-- The first rows are lent to be tidied up, and come back: there are as many as before,
+lent-size : (rows new : List ℕ) (m : ℕ) → length new ≡ length (take m rows) → length (new ++ drop m rows) ≡ length rows
+lent-size rows new m size = omega (arith, length-append new (drop m rows), length-take m rows, length-drop m rows)
+
+-- and what stands in front of them stands in front of all.
+lent-front : (rows new : List ℕ) (m r : ℕ) → r ≤ length new → take r (new ++ drop m rows) ≡ take r new
+lent-front rows new m r few = take-append-le r new (drop m rows) few
 
 -- What is tidied up is no more than it was.
 tidied-few : {l rows rows' : List ℕ} {r : ℕ} → Tidied l rows rows' r → r ≤ length rows'
@@ -113,16 +115,16 @@ tidied-few {l} {rows} {rows'} {r} t = elim (dec_lt (length rows') r) [
 
 module _ (p m : ℕ) (rows : List ℕ) (parted : p ≤ m) where
   -- Joined: all of them are tidied up.
-  pub added-any : step_need Any p (m - p) ≤ length rows → {new : List ℕ} {r : ℕ} → Tidied (drop 0 (take (m - 0) rows)) (take (m - 0) rows) new r
-      → Added Any (take p rows) (between p m rows) rows (put_mid 0 (m - 0) rows new) r
-  unfolding step_need added
-  added-any room {new} {r} t =
-      let there : p + (m - p) ≡ m - 0 = omega arith in
-      let both : take p rows ++ between p m rows ≡ take (m - 0) rows = sym (take-add p (m - p) rows) ∙ ap (λ n. take n rows) there in
+  pub added-any : {new : List ℕ} {r : ℕ} → Tidied (drop 0 (take m rows)) (take m rows) new r
+      → Added Any (take p rows) (between p m rows) rows (new ++ drop m rows) r
+  unfolding added
+  added-any {new} {r} t =
+      let there : p + (m - p) ≡ m = omega arith in
+      let both : take p rows ++ between p m rows ≡ take m rows = sym (take-add p (m - p) rows) ∙ ap (λ n. take n rows) there in
       record {
-        size = same_len_mid 0 (m - 0) rows new t.size;
+        size = lent-size rows new m t.size;
         count = t.count ∙ sym (ap (λ l. length (tidy l)) both);
-        front = lent-front rows new m r (omega arith) t.size (tidied-few t) ∙ t.tidied ∙ sym (ap tidy both);
+        front = lent-front rows new m r (tidied-few t) ∙ t.tidied ∙ sym (ap tidy both);
       }
 
   -- There are rows for all unions.
@@ -132,19 +134,22 @@ module _ (p m : ℕ) (rows : List ℕ) (parted : p ≤ m) where
 
   -- United: their unions are tidied up.
   pub added-all : step_need All p (m - p) ≤ length rows → {united new : List ℕ} {end r : ℕ} → United p m rows united end
-      → Tidied (drop m (take (end - 0) united)) (take (end - 0) united) new r
-      → Added All (take p rows) (between p m rows) rows (put_mid 0 (end - 0) united new) r
+      → Tidied (drop m (take end united)) (take end united) new r → Added All (take p rows) (between p m rows) rows (new ++ drop end united) r
   unfolding added
   added-all room {united} {new} {end} {r} u t =
       let first : length (take m rows) ≡ m = length-take-le m rows (omega (arith, added-room room)) in
-      let behind : drop m (take (end - 0) united) ≡ u.sets = rw (sub-zero end, u.followed.written) (drop_at (take m rows) u.sets m first) in
-      let same : tidy (drop m (take (end - 0) united)) ≡ tidy (unions (take p rows) (between p m rows)) =
+      let behind : drop m (take end united) ≡ u.sets = rw u.followed.written (drop_at (take m rows) u.sets m first) in
+      let same : tidy (drop m (take end united)) ≡ tidy (unions (take p rows) (between p m rows)) =
       ap tidy behind ∙ tidy-same u.sets (unions (take p rows) (between p m rows)) u.same in
       record {
-        size = same_len_mid 0 (end - 0) united new t.size ∙ u.followed.size;
+        size = lent-size united new end t.size ∙ u.followed.size;
         count = t.count ∙ ap length same;
-        front = lent-front united new end r (omega (arith, u.followed.size, u.within)) t.size (tidied-few t) ∙ t.tidied ∙ same;
+        front = lent-front united new end r (tidied-few t) ∙ t.tidied ∙ same;
       }
+
+-- What is added to is counted no higher than the rows.
+pub added-within : {e : Extent} {l m rows rows' : List ℕ} {r : ℕ} → Added e l m rows rows' r → r ≤ length rows
+added-within {rows' = rows'} {r} a = omega (arith, a.count, ap length a.front, length-take r rows', a.size)
 
 -- ---- a room added
 
@@ -165,8 +170,8 @@ module _ (e : Extent) (N : Network) (p most : ℕ) (rows : List ℕ) (fits : Mos
     with-list-length = same_len_mid p ((p + most) - p) rows new l.size
 
     -- The list is too long.
-    pub room-short : most < q → {r : ℕ} → r ≡ length rows + 1 → RoomAdded e N p rows with-list r
-    room-short more {r} is =
+    pub room-short : most < q → RoomAdded e N p rows with-list (length rows + 1)
+    room-short more =
         let long : most < length (mincuts N) = omega (arith, l.count, lent_length) in
         record {
           size = with-list-length;
@@ -194,7 +199,8 @@ module _ (e : Extent) (N : Network) (p most : ℕ) (rows : List ℕ) (fits : Mos
           (take-append-le q new (post_of p ((p + most) - p) rows) (omega (arith, l.size, lent_length)) ∙ l.listed (omega (arith, listed-count, lent_length)))
 
       -- Added to them, it is the room added.
-      pub room-added : {rows' : List ℕ} {r : ℕ} → Added e (take p with-list) (between p (p + q) with-list) with-list rows' r → RoomAdded e N p rows rows' r
+      pub room-added : {rows' : List ℕ} {r : ℕ} → Added e (take p with-list) (between p (p + q) with-list) with-list rows' r
+          → RoomAdded e N p rows rows' r
       room-added {rows'} {r} a =
           let step : Added e (take p rows) (mincuts N) with-list rows' r = rw (first-sets, next-sets) at a in
           record {
@@ -209,9 +215,13 @@ module _ (e : Extent) (N : Network) (p most : ℕ) (rows : List ℕ) (fits : Mos
 pub room-accepted : (N : Network) (s t : ℕ) → Rooms N s → t ∈ s → fault_of (to N t) ≡ 0
 room-accepted N s t r m = to-accepted N t r.accepted (r.points t m) (r.others t m)
 
--- There is a first room.
-pub first-room : (N : Network) (s t : ℕ) → s < 2 ^ node_width → Rooms N s → Lowest node_width s t → t < node_width
-first-room N s t small r low = lowest-lt node_width s t small (λ e. not-zero r.some.0 (rw e at r.some.1)) low
+-- There is a first room, and with the others it makes the rooms.
+pub first-others : (N : Network) (s t d : ℕ) → s < 2 ^ node_width → Rooms N s → Lowest node_width s t
+    → ((k : ℕ) → has d k ≡ has s k && not (eqb k t)) → (t ∈ s) × (t ∷ members node_width d ≡ members node_width s)
+first-others N s t d small r low rest =
+    let lower = lowest-lt node_width s t small r.some low in
+    let less = less-lowest node_width s t d low lower rest in
+    (less.member, sym (members-first node_width s d t lower low less.rest))
 
 module _ (e : Extent) (N : Network) where
   -- The sets for one room more.
@@ -240,28 +250,24 @@ module _ (e : Extent) (N : Network) where
     | inr i ↦ Memᴰ.tail (needs-first (before ++ t ∷ []) ts us n i)
   ]
 
-module _ (e : Extent) (N : Network) (start left₀ lent : ℕ) where
-  -- The rooms in rising order: the first, and those that are left then.
-  abbrev rooms : List ℕ
-  rooms = start ∷ members node_width left₀
-
+module _ (e : Extent) (N : Network) (ts : List ℕ) (lent : ℕ) where
   pub record Taking (rows : List ℕ) (count left : ℕ) : Type 0 where
     pub first : ℕ
     pub others : List ℕ
-    pub within : left ⊆ left₀
-    pub order : (first ∷ others) ++ members node_width left ≡ rooms
+    pub order : (first ∷ others) ++ members node_width left ≡ ts
     pub taken : Taken e N (first ∷ others) lent rows count
 
   -- The first room's list.
-  pub first-taking : {rows₀ rows : List ℕ} {n : ℕ} → RoomListed (to N start) rows₀ rows n → length rows₀ ≡ lent → Taking rows n left₀
+  pub first-taking : (start left : ℕ) → start ∷ members node_width left ≡ ts → {rows₀ rows : List ℕ} {n : ℕ}
+      → RoomListed (to N start) rows₀ rows n
+      → length rows₀ ≡ lent → Taking rows n left
   unfolding sets_for sets_from needs_from room_need
-  first-taking {rows₀} {rows} {n} l all =
+  first-taking start left whole {rows₀} {rows} {n} l all =
       let fits : length (mincuts (to N start)) ≤ lent → n ≡ length (mincuts (to N start)) = λ few. omega (arith, l.count, all) in
       record {
         first = start;
         others = [];
-        within = ⊆-refl left₀;
-        order = refl;
+        order = whole;
         taken = record {
           size = l.size ∙ all;
           enough = λ few. let room = few (length (mincuts (to N start))) (Memᴰ.head refl) in (fits room, l.listed (omega (arith, all)));
@@ -274,14 +280,14 @@ module _ (e : Extent) (N : Network) (start left₀ lent : ℕ) where
     before = t.first ∷ t.others
 
     -- After the last room all are taken.
-    pub last-taking : ((k : ℕ) → k ∈ left → ⊥) → Taken e N rooms lent rows count
+    pub last-taking : members node_width left ≡ [] → Taken e N ts lent rows count
     last-taking none =
-        let empty : members node_width left ≡ [] = members-none node_width left (λ k h. lacks-false none k) in
-        let whole : before ≡ rooms = sym (append-nil before) ∙ ap (λ l. before ++ l) (sym empty) ∙ t.order in
+        let whole : before ≡ ts = sym (append-nil before) ∙ ap (λ l. before ++ l) (sym none) ∙ t.order in
         rw whole at t.taken
-      where
-        lacks-false : ((k : ℕ) → k ∈ left → ⊥) → (k : ℕ) → has left k ≡ false
-        lacks-false none k = same_test (has left k) false (none k) absurd
+
+    -- The rooms left are among all.
+    pub left-rooms : (k : ℕ) → Memᴰ k (members node_width left) → Memᴰ k ts
+    left-rooms k m = rw t.order at (Memᴰ.append_right before m)
 
     -- Where every step has had enough rows, the sets stand in front.
     taken-few : ((n : ℕ) → Memᴰ n (needs_from e N [] before) → n ≤ lent) → count ≤ lent
@@ -290,7 +296,7 @@ module _ (e : Extent) (N : Network) (start left₀ lent : ℕ) where
         omega (arith, ap length front, length-take count rows, t.taken.size)
 
     -- Where there were too few for a step, there are too few for all.
-    pub short-taking : length rows < count → Taken e N rooms lent rows count
+    pub short-taking : length rows < count → Taken e N ts lent rows count
     short-taking more = record {
       size = t.taken.size;
       enough = λ enough.
@@ -308,10 +314,10 @@ module _ (e : Extent) (N : Network) (start left₀ lent : ℕ) where
       ]
 
       -- With the next room's list added, one room more is taken.
-      pub next-taking : (r next : ℕ) → r < node_width → Lowest node_width left r → Less left r next → {rows' : List ℕ} {n : ℕ}
+      pub next-taking : (r next : ℕ) → members node_width left ≡ r ∷ members node_width next → {rows' : List ℕ} {n : ℕ}
           → RoomAdded e (to N r) count rows rows' n → Taking rows' n next
       unfolding room_need
-      next-taking r next h low less {rows'} {n} a =
+      next-taking r next came {rows'} {n} a =
           let (is, front) = t.taken.enough so_far in
           let size : length rows ≡ lent = t.taken.size in
           let need : room_need e N before r ≡ step_need e count (length (mincuts (to N r))) = ap (λ k. step_need e k (length (mincuts (to N r)))) (sym is) in
@@ -319,10 +325,9 @@ module _ (e : Extent) (N : Network) (start left₀ lent : ℕ) where
           record {
             first = t.first;
             others = t.others ++ r ∷ [];
-            within = λ k m. t.within k ((less.rest k).0 m).0;
             order =
                 append_assoc before (r ∷ []) (members node_width next)
-                ∙ ap (λ l. before ++ l) (sym (members-first node_width left next r h low less.rest))
+                ∙ ap (λ l. before ++ l) (sym came)
                 ∙ t.order;
             taken = record {
               size = a.size ∙ size;
@@ -339,53 +344,3 @@ module _ (e : Extent) (N : Network) (start left₀ lent : ℕ) where
               ];
             };
           }
-
--- ---- what is left
-
--- Rows that are set to 0 one after the other: after the first i the next.
-module _ (lent : List ℕ) where
-  abbrev zeros : List ℕ
-  zeros = replicate (length lent) 0
-
-  pub cleared-next : (i : ℕ) {now : List ℕ} → now ≡ onto (take i zeros) lent → i < length lent → set now i 0 ≡ onto (take (i + 1) zeros) lent
-  cleared-next i {now} e h =
-      ap (set now i) (sym (get_or-replicate (length lent) i 0 0 h)) ∙ onto-next zeros lent i e (rw (length-replicate {A = ℕ} (length lent) 0) h) h
-
-  -- No row is lost.
-  pub onto-length : (l : List ℕ) (i : ℕ) {now : List ℕ} → now ≡ onto (take i l) lent → i ≤ length lent → length now ≡ length lent
-  onto-length l i e h = ap length e ∙ length-onto (take i l) lent (omega (arith, length-take i l))
-
-  -- At last all are 0.
-  pub cleared-last : (i : ℕ) {now : List ℕ} → now ≡ onto (take i zeros) lent → length lent ≤ i → now ≡ zeros
-  cleared-last i e h =
-      let long : length zeros ≡ length lent = length-replicate {A = ℕ} (length lent) 0 in
-      let all : take i zeros ≡ zeros = take_all i zeros (omega arith) in
-      e ∙ ap (λ l. onto l lent) all ∙ ap (λ l. zeros ++ l) (drop_of_length-le lent {i = length zeros} (omega arith)) ∙ append-nil zeros
-
-module _ (n : ℕ) (work cuts : List ℕ) where
-  -- More sets are counted than there are work rows.
-  pub delivered-short : length work < n → {a : Listed} → a ≡ record { refusal = 20; count = 0 } → Delivered n work cuts cuts a
-  delivered-short h e = record {
-    short = λ _. (e, refl);
-    outnumbered = λ k _. absurd (omega arith);
-    complete = λ k _. absurd (omega arith);
-  }
-
-  -- There are more than rows for cuts.
-  pub delivered-outnumbered : n ≤ length work → length cuts < n → {a : Listed} → a ≡ record { refusal = 12; count = 0 } → Delivered n work cuts cuts a
-  delivered-outnumbered k h e = record {
-    short = λ l. absurd (omega arith);
-    outnumbered = λ _ _. (e, refl);
-    complete = λ _ l. absurd (omega arith);
-  }
-
-  -- Otherwise they are copied, one after the other.
-  pub delivered-complete : n ≤ length work → n ≤ length cuts → (i : ℕ) {now : List ℕ} → now ≡ onto (take i work) cuts → i ≤ n → n ≤ i → {a : Listed}
-      → a ≡ record { refusal = 0; count = n } → Delivered n work cuts now a
-  delivered-complete k h i {now} e l m is =
-      let all : i ≡ n = omega arith in
-      record {
-        short = λ s. absurd (omega arith);
-        outnumbered = λ _ s. absurd (omega arith);
-        complete = λ _ _. (is, rw all at e);
-      }

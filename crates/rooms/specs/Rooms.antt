@@ -32,8 +32,7 @@ use Rattle.bitset.specs.Members.{has, insert}
 use Rattle.network.specs.declared.Network.{Network}
 use Rattle.network.specs.Record.{◌when◌, ◌then◌, unless_refused, fault_of, Stored}
 use Rattle.clutters.specs.Clutters.{tidy, unions}
-use Rattle.listing.specs.declared.Listed.{Listed}
-use Rattle.listing.specs.List.{mincuts}
+use Rattle.listing.specs.List.{Listed, mincuts}
 use Rattle.rooms.specs.declared.Extent.{Extent}
 use Rattle.rooms.specs.declared.Extent.TheVariants.{Any, All}
 use Rattle.rooms.specs.Silences.{to, Silences, Package}

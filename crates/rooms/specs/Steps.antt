@@ -1,8 +1,8 @@
 -- What the steps of the calls do to the work rows.
 -- Working.
 --
---   Packaged N ts a          the answer a: the refusal of a call for the rooms ts, and where there is none the set of these rooms
---   Rooms N s                the network N is accepted, and s are some of its points, the server not among them
+--   Packaged N ts a          the answer a: the refusal of a call for the rooms ts, and where there is none the set of these rooms of N
+--   counted lent a           how many sets an answer a counts; one more than the rows, `lent` in number, if there were too few
 --   MostSets e lent p r      with p sets so far and `lent` work rows, the next room's list fits exactly if it has at most r sets
 --   RoomListed N rows rows' r    the rows have become rows': the mincuts of N stand in front if there are rows for all of them; r is their
 --                            number, at most one more than there are rows
@@ -13,26 +13,25 @@
 --   Delivered n work cuts cuts' a    the answer a and the rows cuts' for n sets that stand in front of the work rows: 20 where that is more than
 --                            there are, 12 where it is more than the rows for cuts, and otherwise the sets are written onto these
 use mathlib.Core.List.{List, [], Memᴰ}
-use Rattle.std.specs.Prelude.{◌↔◌, ◌≡◌, ℕ, ◌+◌, min, ◌≤◌, ◌<◌, length, take}
+use Rattle.std.specs.Prelude.{Option, Some, None, Result, IfOk, ◌↔◌, ◌≡◌, ℕ, ◌+◌, min, ◌≤◌, ◌<◌, length, take}
 use Rattle.sequences.specs.Words.{onto}
 use Rattle.bitset.specs.Members.{◌∈◌}
 use Rattle.network.specs.declared.Network.{Network}
-use Rattle.network.specs.Record.{fault_of}
-use Rattle.listing.specs.declared.Listed.{Listed}
-use Rattle.listing.specs.List.{mincuts}
+use Rattle.network.specs.declared.refusal.Refusal.{Refusal}
+use Rattle.network.specs.Refusals.{refusal_of}
+use Rattle.listing.specs.List.{Listed, mincuts}
 use Rattle.rooms.specs.declared.Extent.{Extent}
-use Rattle.rooms.specs.declared.Asked.{Asked}
+use Rattle.rooms.specs.declared.asked.Asked.{Asked}
 use Rattle.rooms.specs.Rooms.{package_fault, added, sets_for, step_need, needs_from}
 
-pub record Packaged (N : Network) (ts : List ℕ) (a : Asked) : Type 0 where
-  pub refusal : a.refusal ≡ package_fault N ts
-  pub rooms : a.refusal ≡ 0 → (v : ℕ) → (v ∈ a.rooms.0) ↔ Memᴰ v ts
+pub record Packaged (N : Network) (ts : List ℕ) (a : Result Asked Refusal) : Type 0 where
+  pub refusal : refusal_of a ≡ package_fault N ts
+  pub network : IfOk a (λ q. q.accepted.network ≡ N)
+  pub rooms : IfOk a (λ q. (v : ℕ) → (v ∈ q.rooms.0) ↔ Memᴰ v ts)
 
-pub record Rooms (N : Network) (s : ℕ) : Type 0 where
-  pub accepted : fault_of N ≡ 0
-  pub some : (t : ℕ) × (t ∈ s)
-  pub points : (t : ℕ) → t ∈ s → t < N.nodes
-  pub others : (t : ℕ) → t ∈ s → t ≡ N.source → ⊥
+abbrev pub counted : ℕ → Option ℕ → ℕ
+counted lent (Some n) = n
+counted lent None = lent + 1
 
 abbrev pub MostSets : Extent → ℕ → ℕ → ℕ → Type 0
 MostSets e lent p r = (q : ℕ) → (q ≤ r) ↔ (step_need e p q ≤ lent)

@@ -1,54 +1,33 @@
 // The rooms taken one after the other, in the work rows.
-ghost use mathlib.Core.List.{Memᴰ};
-ghost use Rattle.std.specs.Prelude.{◌≡◌, ◌+◌, ◌-◌, ◌^◌, ◌≤◌, ◌<◌, length, take};
-ghost use Rattle.bitset.specs.Members.{◌∈◌, members};
+ghost use Rattle.std.specs.Prelude.{◌≡◌, ◌+◌, ◌-◌, ◌^◌, ◌≤◌, ◌<◌, length, take, IfSome};
+ghost use Rattle.bitset.specs.Members.{members};
 ghost use Rattle.node_set.specs.Width.{node_width};
-ghost use Rattle.network.specs.Record.{fault_of};
 ghost use Rattle.clutters.specs.Steps.{between};
-ghost use Rattle.rooms.specs.Silences.{to};
 ghost use Rattle.rooms.specs.Rooms.{step_need};
-ghost use Rattle.rooms.specs.Steps.{MostSets, RoomListed, Added, RoomAdded, Rooms, Taken};
+ghost use Rattle.rooms.specs.Steps.{counted, MostSets, RoomListed, Added, RoomAdded, Taken};
 
 use crate::Extent;
+use crate::asked::Asked;
 use clutters::{tidy, unite};
-use connectivity::relevant;
+use connectivity::part_of;
 use enumeration::enumerate;
-use network::Network;
-use node_set::{NODE_WIDTH, NodeSet, NodeWord};
+use network::Accepted;
 use ordering::sort_sets;
+use sets::BitSet;
 
-// The network with another node for its sink.
-fn to_room(network: Network, room: u32) -> Network
-    requires { room < node_width }
-    ensures { result ≡ to network room }
-{
-    let mut other = network;
-    other.sink = room as u8;
-    other
-}
-
-// The minimal cuts of an accepted network, rising, in front of the rows, if there are rows for all of them. Gives their number, at most one
-// more than there are rows: no more of them are looked for.
-fn list_room(network: Network, rows: &mut [u64]) -> usize
-    requires { fault_of network ≡ 0 }
-    ensures { RoomListed network rows.old rows.new result }
+// The minimal cuts of an accepted network, rising, in front of the rows, if there are rows for all of them. Gives their number, none if there
+// are more of them than rows: these are not looked for.
+fn list_room(accepted: Accepted, rows: &mut [u64]) -> Option<usize>
+    ensures listed { RoomListed accepted.network rows.old rows.new (counted (length rows.old) result) }
+    ensures within { IfSome result (λ n. n ≤ length rows.old) }
 {
     let lent = rows.len();
-    let part = relevant(network);
-    let mut sides: [NodeWord; 1] = [0; 1];
-    let count = enumerate(
-        network,
-        part.nodes,
-        part.edges,
-        rows,
-        &mut sides[0..0],
-        lent,
-    );
+    let count = enumerate(part_of(accepted), rows, &mut [], lent);
     if lent < count {
-        return count;
+        return None;
     }
-    sort_sets(&mut rows[0..count]);
-    count
+    sort_sets(&mut rows[..count]);
+    Some(count)
 }
 
 // How many sets the next room's list may have, with p sets so far, so that the step needs no more rows than are lent.
@@ -70,48 +49,38 @@ fn add(extent: Extent, rows: &mut [u64], p: usize, m: usize) -> usize
     ensures { Added extent (take p rows.old) (between p m rows.old) rows.old rows.new result }
 {
     match extent {
-        Extent::Any => tidy(&mut rows[0..m], 0),
+        Extent::Any => tidy(&mut rows[..m], 0),
         Extent::All => {
             let end = unite(rows, p, m);
-            tidy(&mut rows[0..end], m)
+            tidy(&mut rows[..end], m)
         }
     }
 }
 
 // Adds the list of an accepted network to the first p sets, if there are enough rows for that step. Gives how many sets then stand in front;
-// more than there are rows, if there are too few.
-fn add_room(extent: Extent, network: Network, rows: &mut [u64], p: usize) -> usize
-    requires { (fault_of network ≡ 0) × (p ≤ length rows.old) }
-    ensures { RoomAdded extent network p rows.old rows.new result }
+// none, if there are too few rows.
+fn add_room(extent: Extent, accepted: Accepted, rows: &mut [u64], p: usize) -> Option<usize>
+    requires { p ≤ length rows.old }
+    ensures added { RoomAdded extent accepted.network p rows.old rows.new (counted (length rows.old) result) }
+    ensures within { IfSome result (λ n. n ≤ length rows.old) }
 {
-    let lent = rows.len();
-    let most = most_sets(extent, lent, p);
-    let end = p + most;
-    let q = list_room(network, &mut rows[p..end]);
-    if most < q {
-        return lent + 1;
-    }
-    add(extent, rows, p, p + q)
+    let most = most_sets(extent, rows.len(), p);
+    let q = list_room(accepted, &mut rows[p..p + most])?;
+    Some(add(extent, rows, p, p + q))
 }
 
-// Takes the rooms in rising order, if there are enough rows for every step. Gives how many sets then stand in front; more than there are
-// rows, if there are too few for a step.
-pub fn take_rooms(extent: Extent, network: Network, rooms: NodeSet, rows: &mut [u64]) -> usize
-    requires { Rooms network rooms.0 }
-    ensures { Taken extent network (members node_width rooms.0) (length rows.old) rows.new result }
+// Takes the rooms in rising order, if there are enough rows for every step. Gives how many sets then stand in front; none, if there are too
+// few rows for a step.
+pub fn take_rooms(extent: Extent, asked: Asked, rows: &mut [u64]) -> Option<usize>
+    ensures taken { Taken extent asked.accepted.network (members node_width asked.rooms.0)
+        (length rows.old) rows.new (counted (length rows.old) result) }
+    ensures within { IfSome result (λ n. n ≤ length rows.old) }
 {
-    let first = rooms.lowest();
-    let mut count = list_room(to_room(network, first), rows);
-    let mut left = rooms.without_lowest();
-    loop {
-        let room = left.lowest();
-        if NODE_WIDTH <= room {
-            return count;
-        }
-        if rows.len() < count {
-            return count;
-        }
-        count = add_room(extent, to_room(network, room), rows, count);
-        left = left.without_lowest();
+    let first = asked.rooms.lowest();
+    let others = asked.rooms.without_lowest();
+    let mut count = list_room(asked.to_room(first), rows)?;
+    for room in others.members() {
+        count = add_room(extent, asked.to_room(room), rows, count)?;
     }
+    Some(count)
 }

@@ -1,18 +1,22 @@
 -- The call that drills a hall: what it answers on each way out, and what that means.
 -- Assumes, for what the steps mean, what the code's types say of the record.
 use mathlib.Core.Logic.{◌↔◌}
-use mathlib.Core.Path.{◌≡◌, refl, ◌∙◌}
+use mathlib.Core.Path.{◌≡◌, refl, ap, ◌∙◌}
 use Prim.Native.Nat.{ℕ, suc, ◌≤◌, ◌<◌}
 use native.Mathlib.Decide.{ℕ_discrete}
 use native.Mathlib.Omega.{arith}
 use borrow.Author.Tests.{ltb-false, lt-ltb, le-ltb}
 use lib.Dec.{T}
+use Rattle.std.specs.Prelude.{Result, Ok, Err}
+use Rattle.std.specs.Result.{IsErrAnd}
 use Rattle.sequences.specs.Counts.{Exactly}
 use Rattle.sequences.proofs.Ranges.{exactly-counted}
 use Rattle.network.specs.declared.Network.{Network}
+use Rattle.network.specs.declared.refusal.Refusal.{Refusal}
+use Rattle.network.specs.Refusals.{number_of}
 use Rattle.network.specs.Record.{fault_of, present, Stored}
 use Rattle.network.specs.Rules.{Rules}
-use Rattle.network.proofs.Refusals.{then-none, none_then, some_then, when-none, none-when, some-when, refused-some}
+use Rattle.network.proofs.Refusals.{number-some, then-none, none_then, some_then, when-none, none-when, some-when, refused-some}
 use Rattle.network.proofs.Rules.{fault-rules}
 use Rattle.graph.specs.Cuts.{Silenced, HoldsMincut}
 use Rattle.graph.specs.Reach.{Bounded}
@@ -20,7 +24,7 @@ use Rattle.graph.proofs.Cuts.{severed-silenced, holds-silenced}
 use Rattle.graph.proofs.Sound.{accepted-sound}
 use Rattle.simulation.specs.declared.Simulated.{Simulated}
 use Rattle.simulation.specs.Steps.{state_after, down_after}
-use Rattle.simulation.specs.Simulation.{silent_step, silent_steps, simulation_refusal, simulated_by, StepsWhere, SimulationMeans}
+use Rattle.simulation.specs.Simulation.{silent_step, silent_steps, simulation_refusal, Tallied, tallied, simulated_by, StepsWhere, SimulationMeans}
 use Rattle.simulation.proofs.Laws.{steps-number, no-route, never-fails, never-repaired}
 
 -- ---- the ways out
@@ -33,8 +37,14 @@ module _ (N : Network) (n f r steps : ℕ) where
   simulation-refused e same some =
       rw (← same, refused-some e (silent_steps N n f r steps) 0 some, refused-some e (state_after (present N) n f r steps).number 0 some) refl
 
+  -- So does one that is passed on.
+  pub simulation-passed : (a : Result Simulated Refusal) (e : Refusal) → IsErrAnd a (λ q. q ≡ e) → number_of e ≡ simulation_refusal N steps
+      → tallied a ≡ simulated_by N n f r steps
+  simulation-passed (Ok x) e h same = absurd h
+  simulation-passed (Err q) e h same = simulation-refused (number_of q) (ap number_of h ∙ same) (number-some q)
+
   -- Without one the steps are counted.
-  pub simulation-run : (answer : Simulated) → simulation_refusal N steps ≡ 0 → answer.refusal ≡ 0 → answer.silent ≡ silent_steps N n f r steps
+  pub simulation-run : (answer : Tallied) → simulation_refusal N steps ≡ 0 → answer.refusal ≡ 0 → answer.silent ≡ silent_steps N n f r steps
       → answer.number ≡ (state_after (present N) n f r steps).number → answer ≡ simulated_by N n f r steps
   unfolding simulated_by
   simulation-run answer none e counted last = rw none (λ i. record { refusal = e i; silent = counted i; number = last i })
@@ -97,7 +107,7 @@ call-means N stored n f r steps = go (ℕ_discrete (simulation_refusal N steps) 
     go : Dec (simulation_refusal N steps ≡ 0) → let a = simulated_by N n f r steps in SimulationMeans N n f r steps a.refusal a.silent a.number
     go (yes e) =
         let kept = (simulation-none N steps).0 e in
-        let counted : Simulated = record { refusal = 0; silent = silent_steps N n f r steps; number = (state_after (present N) n f r steps).number } in
+        let counted : Tallied = record { refusal = 0; silent = silent_steps N n f r steps; number = (state_after (present N) n f r steps).number } in
         let ok = (fault-rules N).1 kept.0 in
         let B = (accepted-sound N stored ok).bounded in
         rw (← simulation-run N n f r steps counted e refl refl refl) (record {
@@ -125,6 +135,6 @@ call-means N stored n f r steps = go (ℕ_discrete (simulation_refusal N steps) 
         })
 
 -- Beside the answer stands what it means.
-pub simulation-means : (N : Network) → Stored N → (n f r steps : ℕ) {answer : Simulated} → answer ≡ simulated_by N n f r steps
+pub simulation-means : (N : Network) → Stored N → (n f r steps : ℕ) {answer : Tallied} → answer ≡ simulated_by N n f r steps
     → (answer ≡ simulated_by N n f r steps) × SimulationMeans N n f r steps answer.refusal answer.silent answer.number
 simulation-means N stored n f r steps a = (a, rw a (call-means N stored n f r steps))

@@ -8,6 +8,7 @@
 --                        these steps ended so
 use mathlib.Core.Bool.{Bool, true, false, cond}
 use mathlib.Core.Path.{◌≡◌, refl, sym, ap, ap₂, ◌∙◌}
+use mathlib.Core.List.{[], ◌∷◌, Memᴰ, rel_of_Pairwise-cons}
 use mathlib.Core.Logic.Iff
 use mathlib.Core.Logic.{◌⊎◌, inl, inr, ◌↔◌, ⊎_map}
 use Prim.Native.Nat.{ℕ, suc, ◌+◌, ◌^◌, ◌≤◌, ◌<◌, zero-le}
@@ -21,9 +22,8 @@ use Rattle.sequences.specs.Words.{range}
 use Rattle.sequences.specs.Counts.{count_if}
 use Rattle.sequences.proofs.Counts.{count-nil}
 use Rattle.sequences.proofs.Ranges.{count_next, count-below}
-use Rattle.bitset.specs.Members.{has, ◌∈◌, insert, add_if, ◌∖◌, members, Lowest}
-use Rattle.bitset.proofs.MemberList.{members-none, members-first}
-use Rattle.bitset.proofs.Scans.{Less}
+use Rattle.bitset.specs.Members.{has, ◌∈◌, insert, add_if, ◌∖◌, members}
+use Rattle.bitset.proofs.MemberList.{members-rising}
 use Rattle.bitset.proofs.Sets.{∈-dec, same_set, not-zero, in_insert, in-add_if, in-or, in-minus, in-drop}
 use Rattle.bitset.proofs.Subsets.{same_test}
 use Rattle.edge_set.specs.declared.EdgeSet.{EdgeSet}
@@ -179,55 +179,56 @@ module _ (f r d a b k x : ℕ) (not-failing : k ∈ a → ⊥) (not-repaired : k
 pub record Drawn (f r edges : ℕ) (before : State) (left number failing repaired : ℕ) : Type 0 where
   pub rest : step f r (members 64 left) (record { number = number; down = record { 0 = after_draws before.down.0 failing repaired } })
       ≡ step f r (members 64 edges) before
-  pub not-failing : (k : ℕ) → k ∈ left → k ∈ failing → ⊥
-  pub not-repaired : (k : ℕ) → k ∈ left → k ∈ repaired → ⊥
+  pub not-failing : (k : ℕ) → Memᴰ k (members 64 left) → k ∈ failing → ⊥
+  pub not-repaired : (k : ℕ) → Memᴰ k (members 64 left) → k ∈ repaired → ⊥
 
 module _ (f r edges : ℕ) (before : State) where
   -- At first no edge has drawn.
-  pub drawn-first : {failing repaired : ℕ} → failing ≡ 0 → repaired ≡ 0 → Drawn f r edges before edges before.number failing repaired
-  drawn-first {failing} {repaired} a b = record {
+  pub drawn-first : {left failing repaired : ℕ} → left ≡ edges → failing ≡ 0 → repaired ≡ 0
+      → Drawn f r edges before left before.number failing repaired
+  drawn-first {left} {failing} {repaired} all a b = record {
     rest =
         let same : after_draws before.down.0 failing repaired ≡ before.down.0 = ap₂ (after_draws before.down.0) a b ∙ none-drawn before.down.0 in
-        λ i. step f r (members 64 edges) (record { number = before.number; down = record { 0 = same i } });
+        λ i. step f r (members 64 (all i)) (record { number = before.number; down = record { 0 = same i } });
     not-failing = λ k l m. not-zero k (rw a at m);
     not-repaired = λ k l m. not-zero k (rw b at m);
   }
 
-  module _ {left number failing repaired : ℕ} (t : Drawn f r edges before left number failing repaired) {k : ℕ} (low : Lowest 64 left k) where
+  module _ {left number failing repaired : ℕ} (t : Drawn f r edges before left number failing repaired) where
     -- The lowest edge draws first, and then the others;
-    pub drawn-next : k < 64 → {next : ℕ} → Less left k next → {number' x failing' repaired' : ℕ} → number' ≡ advanced number → x ≡ draw_of number'
-        → failing' ≡ add_if (ltb x f) failing k → repaired' ≡ add_if (ltb x r) repaired k → Drawn f r edges before next number' failing' repaired'
+    pub drawn-next : {k next : ℕ} → members 64 left ≡ k ∷ members 64 next → {number' x failing' repaired' : ℕ} → number' ≡ advanced number
+        → x ≡ draw_of number' → failing' ≡ add_if (ltb x f) failing k → repaired' ≡ add_if (ltb x r) repaired k
+        → Drawn f r edges before next number' failing' repaired'
     unfolding step turn
-    drawn-next h {next} less {number'} {x} {failing'} {repaired'} e draw a b =
+    drawn-next {k} {next} came {number'} {x} {failing'} {repaired'} e draw a b =
         let d : ℕ = before.down.0 in
         let s : State = record { number = number; down = record { 0 = after_draws d failing repaired } } in
         let now : draw_of (advanced number) ≡ x = sym (draw ∙ ap draw_of e) in
+        let here : Memᴰ k (members 64 left) = rw came (Memᴰ.head refl) in
         let down : after_draw f r (after_draws d failing repaired) k (draw_of (advanced number)) ≡ after_draws d failing' repaired' =
         ap (after_draw f r (after_draws d failing repaired) k) now
-        ∙ drawn-more f r d failing repaired k x (t.not-failing k less.member) (t.not-repaired k less.member)
+        ∙ drawn-more f r d failing repaired k x (t.not-failing k here) (t.not-repaired k here)
         ∙ ap₂ (after_draws d) (sym a) (sym b) in
         let state : turn f r s k ≡ record { number = number'; down = record { 0 = after_draws d failing' repaired' } } =
         λ i. record { number = sym e i; down = record { 0 = down i } } in
-        let apart : (c : Bool) (set j : ℕ) → j ∈ next → (j ∈ left → j ∈ set → ⊥) → j ∈ add_if c set k → ⊥ = λ c set j m out i.
-        elim ((in-add_if c set k j).0 i) [ inl q ↦ out ((less.rest j).0 m).0 q | inr q ↦ ((less.rest j).0 m).1 q.1 ] in
+        let apart : (c : Bool) (set j : ℕ) → Memᴰ j (members 64 next) → (Memᴰ j (members 64 left) → j ∈ set → ⊥) → j ∈ add_if c set k → ⊥ =
+        λ c set j m out i.
+        let above : k < j = rel_of_Pairwise-cons (rw came at (members-rising 64 left)) ∣ m ∣₁ in
+        elim ((in-add_if c set k j).0 i) [ inl q ↦ out (rw came (Memᴰ.tail m)) q | inr q ↦ let same = q.1 in omega arith ] in
         record {
-          rest =
-              ap (step f r (members 64 next)) (sym state)
-              ∙ ap (λ l. step f r l s) (sym (members-first 64 left next k h low less.rest))
-              ∙ t.rest;
+          rest = ap (step f r (members 64 next)) (sym state) ∙ ap (λ l. step f r l s) (sym came) ∙ t.rest;
           not-failing = λ j m i. apart (ltb x f) failing j m (t.not-failing j) (rw a at i);
           not-repaired = λ j m i. apart (ltb x r) repaired j m (t.not-repaired j) (rw b at i);
         }
 
     -- where none is left, the step is over.
-    pub drawn-last : 64 ≤ k → {down : EdgeSet} → down.0 ≡ after_draws before.down.0 failing repaired
+    pub drawn-last : members 64 left ≡ [] → {down : EdgeSet} → down.0 ≡ after_draws before.down.0 failing repaired
         → record { number = number; down = down } ≡ step f r (members 64 edges) before
     unfolding step
-    drawn-last h {down} e =
+    drawn-last over {down} e =
         let s : State = record { number = number; down = record { 0 = after_draws before.down.0 failing repaired } } in
         let here : record { number = number; down = down } ≡ s = λ i. record { number = number; down = record { 0 = e i } } in
-        let over : s ≡ step f r (members 64 left) s = ap (λ l. step f r l s) (sym (members-none 64 left (λ j l. low.none_below j (omega (arith, l, h))))) in
-        here ∙ over ∙ t.rest
+        here ∙ ap (λ l. step f r l s) (sym over) ∙ t.rest
 
 -- ---- from step to step
 

@@ -4,14 +4,19 @@
 --   silent_step N n f r i        whether the edges down after step i, counted from 0, sever  [computed: silent-step (simulation/proofs/Meaning)]
 --   silent_steps N n f r steps   how many of the steps do  [computed: steps-right (simulation/proofs/Meaning)]
 --   simulation_refusal N steps   the call's refusal for a network and so many steps, 0 if there is none
+--   Tallied                      a call's answer as numbers: the refusal, 0 if there is none, beside the steps that count and the final
+--                                number, both 0 on refusal
+--   tallied a                    the answer a of the call as such numbers
 --   simulated_by N n f r steps   its answer for the start number n, the failure setting f and the repair setting r
 --   StepsWhere N n f r steps P k     P holds of the edges down after exactly k of the steps
 --   SimulationMeans N n f r steps e k m    what it means that the call gave the refusal e, the steps k and the number m
-use Rattle.std.specs.Prelude.{Bool, ◌↔◌, ◌≡◌, ℕ, suc, ◌+◌, ◌*◌, ◌≤◌, ◌<◌, ltb}
+use Rattle.std.specs.Prelude.{Bool, Result, ◌↔◌, ◌≡◌, ℕ, suc, ◌+◌, ◌*◌, ◌≤◌, ◌<◌, ltb}
 use Rattle.sequences.specs.Words.{range}
 use Rattle.sequences.specs.Counts.{count_if, Exactly}
 use Rattle.bitset.specs.Members.{size}
 use Rattle.network.specs.declared.Network.{Network}
+use Rattle.network.specs.declared.refusal.Refusal.{Refusal}
+use Rattle.network.specs.Refusals.{refusal_of, answer_of}
 use Rattle.network.specs.Record.{◌when◌, ◌then◌, unless_refused, fault_of, present, Stored}
 use Rattle.network.specs.Rules.{Rules}
 use Rattle.graph.specs.Paths.{Minpath}
@@ -32,7 +37,17 @@ silent_steps N n f r steps = count_if (silent_step N n f r) (range 0 steps)
 unfoldable pub simulation_refusal : Network → ℕ → ℕ
 simulation_refusal N steps = fault_of N then 25 when ltb 65535 steps
 
-unfoldable pub simulated_by : Network → ℕ → ℕ → ℕ → ℕ → Simulated
+pub record Tallied : Type 0 where
+  pub refusal : ℕ
+  pub silent : ℕ
+  pub number : ℕ
+
+abbrev pub tallied : Result Simulated Refusal → Tallied
+tallied a =
+    let given = answer_of (record { silent = 0; number = 0 }) a in
+    record { refusal = refusal_of a; silent = given.silent; number = given.number }
+
+unfoldable pub simulated_by : Network → ℕ → ℕ → ℕ → ℕ → Tallied
 simulated_by N n f r steps =
     let e = simulation_refusal N steps in
     record {

@@ -4,23 +4,22 @@
 
 ghost use Rattle.std.specs.Prelude.{◌≡◌, ◌≤◌, ◌<◌, ltb};
 ghost use Rattle.bitset.specs.Members.{add_if, members};
-ghost use Rattle.network.specs.Record.{fault_of, present};
+ghost use Rattle.network.specs.Record.{present};
 ghost use Rattle.simulation.specs.Steps.{after_draws, step, state_after};
-ghost use Rattle.simulation.specs.Simulation.{silent_steps, simulated_by, SimulationMeans};
+ghost use Rattle.simulation.specs.Simulation.{silent_steps, tallied, simulated_by, SimulationMeans};
 
 use connectivity::{settled, severed};
 use edge_set::EdgeSet;
 use generator::{advance, draw};
-use network::Network;
-use network::refusal::TOO_MANY_STEPS;
+use network::{Accepted, Network, Refusal, accept};
+use sets::BitSet;
 
 // The most steps of a drill.
 const MAX_STEPS: u64 = 65535;
 
-// The answer: the refusal's number, 0 if there is none, beside the steps that count and the final number, both 0 on refusal.
+// What a drill gives: the steps that count, and the final number.
 #[derive(Clone, Copy)]
 pub struct Simulated {
-    pub refusal: u8,
     pub silent: u64,
     pub number: u64,
 }
@@ -49,57 +48,54 @@ fn after_draws(down: EdgeSet, failing: EdgeSet, repaired: EdgeSet) -> EdgeSet
     down.difference(repaired).union(failing.difference(down))
 }
 
-// A step: each of these edges, in rising order, takes one draw.
-fn step(failure: u8, repair: u8, edges: EdgeSet, before: State) -> State
-    ensures { result ≡ step failure repair (members 64 edges.0) before }
-{
-    let mut left = edges;
-    let mut number = before.number;
-    let mut failing = EdgeSet::empty();
-    let mut repaired = EdgeSet::empty();
-    loop {
-        let edge = left.lowest();
-        if 64 <= edge {
-            return State {
-                number,
-                down: after_draws(before.down, failing, repaired),
-            };
+impl State {
+    // A step: each of these edges, in rising order, takes one draw.
+    fn step(self, failure: u8, repair: u8, edges: EdgeSet) -> State
+        ensures { result ≡ step failure repair (members 64 edges.0) self }
+    {
+        let mut number = self.number;
+        let mut failing = EdgeSet::empty();
+        let mut repaired = EdgeSet::empty();
+        for edge in edges.members() {
+            number = advance(number);
+            let drawn = draw(number);
+            failing = add_below(failing, edge, drawn, failure);
+            repaired = add_below(repaired, edge, drawn, repair);
         }
-        number = advance(number);
-        let drawn = draw(number);
-        failing = add_below(failing, edge, drawn, failure);
-        repaired = add_below(repaired, edge, drawn, repair);
-        left = left.without_lowest();
+        State {
+            number,
+            down: after_draws(self.down, failing, repaired),
+        }
     }
 }
 
 // The drill of an accepted record. Whether the room is silent before a step is known, so that a spread is made only where it can change.
-fn run(network: Network, start: u64, failure: u8, repair: u8, steps: u64) -> Simulated
-    requires { (fault_of network ≡ 0) × (steps ≤ 65535) }
-    ensures { (result.refusal ≡ 0) × (result.silent ≡ silent_steps network start failure repair steps)
-        × (result.number ≡ (state_after (present network) start failure repair steps).number) }
+fn run(accepted: Accepted, start: u64, failure: u8, repair: u8, steps: u64) -> Simulated
+    requires { steps ≤ 65535 }
+    ensures { (result.silent ≡ silent_steps accepted.network start failure repair steps)
+        × (result.number ≡ (state_after (present accepted.network) start failure repair steps).number) }
 {
-    let edges = network.present;
+    let edges = accepted.network.present;
     let mut state = State {
         number: start,
         down: EdgeSet::empty(),
     };
-    let mut severs = severed(network, state.down);
+    let mut severs = severed(accepted, state.down);
     let mut silent = 0;
-    let mut done = 0;
-    while done < steps {
-        let next = step(failure, repair, edges, state);
+    for _ in 0..steps {
+        // The two settings are handed on one by one and not in a struct: drill_settings_exchanged exchanges them here.
+        let next = state.step(failure, repair, edges);
+        // The sets before and after a step stand here, and not in a struct that a log and a week of works would share:
+        // drill_spread_before_the_step takes the one for the other.
         if !settled(severs, state.down, next.down) {
-            severs = severed(network, next.down);
+            severs = severed(accepted, next.down);
         }
         if severs {
             silent += 1;
         }
         state = next;
-        done += 1;
     }
     Simulated {
-        refusal: 0,
         silent,
         number: state.number,
     }
@@ -107,24 +103,20 @@ fn run(network: Network, start: u64, failure: u8, repair: u8, steps: u64) -> Sim
 
 // Drills a hall: from the start number on, each present edge takes one draw in each step, by which it fails or is repaired. Gives how many
 // of the steps end with a minimal cut wholly down, and the final number. The record's first fault, then 25.
-pub fn simulate(network: Network, start: u64, failure: u8, repair: u8, steps: u64) -> Simulated
-    ensures value { result ≡ simulated_by network start failure repair steps }
-    ensures means { SimulationMeans network start failure repair steps result.refusal result.silent result.number }
+pub fn simulate(
+    network: Network,
+    start: u64,
+    failure: u8,
+    repair: u8,
+    steps: u64,
+) -> Result<Simulated, Refusal>
+    ensures value { tallied result ≡ simulated_by network start failure repair steps }
+    ensures means { let answer = tallied result in
+        SimulationMeans network start failure repair steps answer.refusal answer.silent answer.number }
 {
-    let refusal = network::fault(network);
-    if refusal != 0 {
-        return Simulated {
-            refusal,
-            silent: 0,
-            number: 0,
-        };
-    }
+    let accepted = accept(network)?;
     if MAX_STEPS < steps {
-        return Simulated {
-            refusal: TOO_MANY_STEPS,
-            silent: 0,
-            number: 0,
-        };
+        return Err(Refusal::TooManySteps);
     }
-    run(network, start, failure, repair, steps)
+    Ok(run(accepted, start, failure, repair, steps))
 }

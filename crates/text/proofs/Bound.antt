@@ -12,6 +12,8 @@ use Rattle.bitset.specs.Members.{has, members_from, members}
 use Rattle.node_set.specs.Width.{node_width}
 use Rattle.text.specs.Ascii.{bytes}
 use Rattle.text.specs.Text.{digits, decimal, spaced, numbers, line_of, word_line, row_lines, list_text, max_numbers, max_line, max_rows, max_text}
+use Rattle.text.specs.declared.Page.{Page}
+use Rattle.text.specs.Written.{HasRoom}
 use Rattle.text.proofs.Decimal.{length-decimal}
 use Rattle.text.proofs.NumberTexts.{spaced-nil, length-spaced, length-numbers, numbers-nil}
 use Rattle.text.proofs.Lines.{length-line, length-word}
@@ -61,3 +63,7 @@ pub text-bound : (cuts sides : List ℕ) → length cuts ≤ max_rows → length
 unfolding list_text
 text-bound cuts sides h =
     rw length-append (omega (arith, word_bound (bytes "cuts") (length cuts) (omega arith) (omega arith), rows_bound cuts sides))
+
+-- A page of `max_text` bytes has room for it.
+pub room-word : {p : Page} (t : List ℕ) (n : ℕ) → length t < 8 → n < 2 ^ 64 → p.len + max_text ≤ length p.bytes.now → HasRoom p (word_line t n)
+room-word t n h l r = record { within = omega (arith, r, word_bound t n h l) }

@@ -1,18 +1,17 @@
 -- A whole list, made of the line of its count and the lines of its rows.
 -- Assumes that there are at most `max_rows` rows, and `max_text` bytes for them.
 use mathlib.Core.Path.{◌≡◌, sym, ◌∙◌}
-use mathlib.Core.List.{List}
+use mathlib.Core.List.{List, ◌++◌}
 use Prim.Native.Nat.{ℕ, ◌+◌, ◌≤◌, min}
 use native.Mathlib.Decide.{dec_le}
-use native.Mathlib.Nat.{le_trans}
 use native.Mathlib.Omega.{arith}
 use lib.ListN.{length, take, length-take}
 use lib.Seq.{take_all}
-use Rattle.text.specs.Ascii.{bytes}
 use Rattle.text.specs.Text.{count_line, row_lines, list_text, max_rows, max_text}
-use Rattle.text.specs.Written.{Wrote, Printed}
-use Rattle.text.proofs.Written.{wrote-length, wrote-text, wrote-printed}
-use Rattle.text.proofs.Bound.{word_bound, rows_bound, text-bound}
+use Rattle.text.specs.declared.Page.{Page}
+use Rattle.text.specs.Written.{HasRoom, Appended, Printed}
+use Rattle.text.proofs.Written.{appended-printed}
+use Rattle.text.proofs.Bound.{text-bound}
 
 -- The first n elements are all that there are of them.
 take_min : (l : List ℕ) (n k : ℕ) → k ≡ min n (length l) → take k l ≡ take n l
@@ -22,18 +21,21 @@ take_min l n k e = go (dec_le n (length l))
     go (yes h) = let f : k ≡ n = omega arith in rw f
     go (no h) = take_all k l (omega arith) ∙ sym (take_all n l (omega arith))
 
-module _ {b m : List ℕ} {q k : ℕ} (room : max_text ≤ length b) (count : Wrote b 0 (count_line k) m q) where
-  -- After the line of the count there is room for the lines of the rows.
-  pub room-rows : (cuts sides : List ℕ) → k ≤ max_rows → q + length (row_lines (take k cuts) (take k sides)) ≤ length m
-  room-rows cuts sides h =
-      omega (arith, count.offset, wrote-length count, word_bound (bytes "cuts") k (omega arith) (omega arith), rows_bound (take k cuts) (take k sides), length-take k cuts)
-
-  -- When these are written too, the list is printed.
-  pub list-printed : {a : List ℕ} {r : ℕ} (cuts sides : List ℕ) (n : ℕ) → k ≡ min n max_rows → length cuts ≡ max_rows → length sides ≡ max_rows
-      → Wrote m q (row_lines (take k cuts) (take k sides)) a r → Printed (list_text (take n cuts) (take n sides)) b a r
+-- With k rows, the fewer of n and all that there may be, the list of the first n is the line of the count k and the lines of k rows.
+module _ (cuts sides : List ℕ) (n k : ℕ) (e : k ≡ min n max_rows) (c : length cuts ≡ max_rows) (s : length sides ≡ max_rows) where
+  list-lines : list_text (take n cuts) (take n sides) ≡ count_line k ++ row_lines (take k cuts) (take k sides)
   unfolding list_text
-  list-printed cuts sides n e c s rows =
-      let p : take k cuts ≡ take n cuts = take_min cuts n k (omega arith) in
-      let t : take k sides ≡ take n sides = take_min sides n k (omega arith) in
-      let l : length (take n cuts) ≡ k = omega (arith, length-take n cuts) in
-      wrote-printed (le_trans (text-bound (take n cuts) (take n sides) (omega arith)) room) (rw (l, ← p, ← t) (wrote-text count rows))
+  list-lines =
+      let count : length (take n cuts) ≡ k = omega (arith, length-take n cuts) in
+      rw (count, take_min cuts n k (omega arith), take_min sides n k (omega arith))
+
+  -- A page of `max_text` bytes has room for them.
+  pub room-list : {p : Page} → p.len + max_text ≤ length p.bytes.now → HasRoom p (count_line k ++ row_lines (take k cuts) (take k sides))
+  room-list room =
+      rw (← list-lines) (record { within = omega (arith, room, text-bound (take n cuts) (take n sides) (omega (arith, length-take n cuts))) })
+
+  -- When they are written from the start on, the list is printed.
+  pub list-printed : {p q : Page} → p.len ≡ 0 → p.len + max_text ≤ length p.bytes.now
+      → Appended p (count_line k ++ row_lines (take k cuts) (take k sides)) q
+      → Printed (list_text (take n cuts) (take n sides)) p.bytes.now q.bytes.now q.len
+  list-printed start room w = rw list-lines (appended-printed start (room-list room) w)

@@ -1,14 +1,14 @@
 // What is printed of a list, as bytes in lent memory. Every contract speaks of the bytes (specs/Text.antt, specs/Written.antt).
 #![tactic(auto)]
 
-ghost use Rattle.std.specs.Prelude.{◌≡◌, ◌+◌, ◌≤◌, min, length, take};
+ghost use Rattle.std.specs.Prelude.{take};
 ghost use Rattle.bitset.specs.Members.{members};
-ghost use Rattle.node_set.specs.Width.{node_width};
-ghost use Rattle.text.specs.Text.{decimal, spaced, numbers, line_of, word_line, refusal_line, row_lines, list_text, max_rows};
-ghost use Rattle.text.specs.Written.{Wrote, Printed};
+ghost use Rattle.text.specs.Text.{decimal, numbers, line_of, word_line, refusal_line, row_lines, list_text};
+ghost use Rattle.text.specs.Written.{HasRoom, Appended, Printed};
 
 use edge_set::EdgeSet;
 use node_set::{NODE_WIDTH, NodeSet, NodeWord};
+use sets::BitSet;
 
 // No more rows are printed.
 pub const MAX_ROWS: usize = 2048;
@@ -20,130 +20,88 @@ const MAX_LINE: usize = (3 * 64 - 11) + 3 + (3 * NODE_WIDTH as usize - 11) + 1;
 // No list of so many rows is longer (proofs/Bound.antt): a page of so many bytes has room for each.
 pub const MAX_TEXT: usize = MAX_ROWS * MAX_LINE + 29;
 
-// Writes the text from the offset `at` on.
-fn write_text(out: &mut [u8], at: usize, text: &[u8]) -> usize
-    requires { at + length text.now ≤ length out.old }
-    ensures { Wrote out.old at text.now out.new result }
-{
-    let mut i = 0;
-    while i < text.len() {
-        out[at + i] = text[i];
-        i += 1;
+// Lent memory that is written from the start on, and how many of its bytes are.
+#[derive(Drop)]
+struct Page<'a> {
+    bytes: &'a mut [u8],
+    len: usize,
+}
+
+// Each method writes behind what is written.
+impl Page<'_> {
+    // Writes the text.
+    fn text(&mut self, text: &[u8])
+        requires { HasRoom self.old text.now }
+        ensures { Appended self.old text.now self.new }
+    {
+        let end = self.len + text.len();
+        self.bytes[self.len..end].copy_from_slice(text);
+        self.len = end;
     }
-    at + i
-}
 
-// Writes the number in decimal from the offset `at` on.
-fn write_number(out: &mut [u8], at: usize, n: usize) -> usize
-    requires { at + length (decimal n) ≤ length out.old }
-    ensures { Wrote out.old at (decimal n) out.new result }
-{
-    if n < 10 {
-        out[at] = b'0' + n as u8;
-        at + 1
-    } else {
-        let last = write_number(out, at, n / 10);
-        out[last] = b'0' + (n % 10) as u8;
-        last + 1
+    // Writes the number in decimal.
+    fn number(&mut self, n: usize)
+        requires { HasRoom self.old (decimal n) }
+        ensures { Appended self.old (decimal n) self.new }
+    {
+        if 10 <= n {
+            self.number(n / 10);
+        }
+        self.text(&[b'0' + (n % 10) as u8]);
     }
-}
 
-// Numbers to be written, as a set of bits: number k weighs 2^k. A kind of its own, so that on its way to the page a set of nodes never
-// becomes a set of edges.
-#[derive(Clone, Copy)]
-struct Numbers(u64);
-
-// Writes each number after a space, rising, from the offset `at` on.
-fn write_spaced(out: &mut [u8], at: usize, set: Numbers) -> usize
-    requires { at + length (spaced (members 64 set.0)) ≤ length out.old }
-    ensures { Wrote out.old at (spaced (members 64 set.0)) out.new result }
-{
-    let mut next = at;
-    let mut rest = set.0;
-    while rest != 0 {
-        let lowest = u64::trailing_zeros(rest);
-        rest = rest & (rest - 1);
-        out[next] = b' ';
-        next = write_number(out, next + 1, lowest as usize);
+    // Writes the members, rising; a hyphen if there are none.
+    fn numbers<S: BitSet>(&mut self, set: S)
+        requires { HasRoom self.old (numbers (members 64 (S.number set))) }
+        ensures { Appended self.old (numbers (members 64 (S.number set))) self.new }
+    {
+        let mut rising = set.members();
+        let Some(lowest) = rising.next() else {
+            self.text(b"-");
+            return;
+        };
+        self.number(lowest as usize);
+        for k in rising {
+            self.text(b" ");
+            self.number(k as usize);
+        }
     }
-    next
-}
 
-// Writes the numbers, rising, from the offset `at` on; a hyphen if there are none.
-fn write_numbers(out: &mut [u8], at: usize, set: Numbers) -> usize
-    requires { at + length (numbers (members 64 set.0)) ≤ length out.old }
-    ensures { Wrote out.old at (numbers (members 64 set.0)) out.new result }
-{
-    let all = set.0;
-    if all == 0 {
-        out[at] = b'-';
-        return at + 1;
+    // Writes the line of a cut and its near side.
+    fn row(&mut self, cut: EdgeSet, side: NodeSet)
+        requires { HasRoom self.old (line_of cut.0 side.0) }
+        ensures { Appended self.old (line_of cut.0 side.0) self.new }
+    {
+        self.numbers(cut);
+        self.text(b" | ");
+        self.numbers(side);
+        self.text(b"\n");
     }
-    let rest = all & (all - 1);
-    let next = write_number(out, at, u64::trailing_zeros(all) as usize);
-    write_spaced(out, next, Numbers(rest))
-}
 
-// Writes the members, rising, from the offset `at` on; a hyphen if there are none.
-fn write_edges(out: &mut [u8], at: usize, set: EdgeSet) -> usize
-    requires { at + length (numbers (members 64 set.0)) ≤ length out.old }
-    ensures { Wrote out.old at (numbers (members 64 set.0)) out.new result }
-{
-    write_numbers(out, at, Numbers(set.0))
-}
-
-// Writes the members, rising, from the offset `at` on; a hyphen if there are none.
-fn write_nodes(out: &mut [u8], at: usize, set: NodeSet) -> usize
-    requires { at + length (numbers (members node_width set.0)) ≤ length out.old }
-    ensures { Wrote out.old at (numbers (members node_width set.0)) out.new result }
-{
-    write_numbers(out, at, Numbers(set.bits()))
-}
-
-// Writes the line of a cut and its near side from the offset `at` on.
-fn write_row(out: &mut [u8], at: usize, cut: EdgeSet, side: NodeSet) -> usize
-    requires { at + length (line_of cut.0 side.0) ≤ length out.old }
-    ensures { Wrote out.old at (line_of cut.0 side.0) out.new result }
-{
-    let edges_end = write_edges(out, at, cut);
-    let bar_end = write_text(out, edges_end, b" | ");
-    let nodes_end = write_nodes(out, bar_end, side);
-    write_text(out, nodes_end, b"\n")
-}
-
-// Writes the lines of the first `count` rows from the offset `at` on.
-fn write_rows(out: &mut [u8], at: usize, cuts: &[u64], sides: &[NodeWord], count: usize) -> usize
-    requires { (count ≤ length cuts.now) × (count ≤ length sides.now) × (at + length (row_lines (take count cuts.now) (take count sides.now)) ≤ length out.old) }
-    ensures { Wrote out.old at (row_lines (take count cuts.now) (take count sides.now)) out.new result }
-{
-    let mut next = at;
-    let mut row = 0;
-    while row < count {
-        next = write_row(out, next, EdgeSet(cuts[row]), NodeSet(sides[row]));
-        row += 1;
+    // Writes the lines of the rows.
+    fn rows(&mut self, cuts: &[u64], sides: &[NodeWord])
+        requires { HasRoom self.old (row_lines cuts.now sides.now) }
+        ensures { Appended self.old (row_lines cuts.now sides.now) self.new }
+    {
+        for (cut, side) in cuts.iter().zip(sides) {
+            self.row(EdgeSet(*cut), NodeSet(*side));
+        }
     }
-    next
-}
 
-// Writes the line of a word and a number from the start on.
-fn write_word(out: &mut [u8], word: &[u8], n: usize) -> usize
-    requires { length (word_line word.now n) ≤ length out.old }
-    ensures { Wrote out.old 0 (word_line word.now n) out.new result }
-{
-    let word_end = write_text(out, 0, word);
-    let space_end = write_text(out, word_end, b" ");
-    let number_end = write_number(out, space_end, n);
-    write_text(out, number_end, b"\n")
-}
-
-// The count, or the number of all rows if that comes first.
-fn rows_up_to(count: usize) -> usize
-    ensures { result ≡ min count max_rows }
-{
-    if count < MAX_ROWS { count } else { MAX_ROWS }
+    // Writes the line of a word and a number.
+    fn word_line(&mut self, word: &[u8], n: usize)
+        requires { HasRoom self.old (word_line word.now n) }
+        ensures { Appended self.old (word_line word.now n) self.new }
+    {
+        self.text(word);
+        self.text(b" ");
+        self.number(n);
+        self.text(b"\n");
+    }
 }
 
 // Makes the list of the first `count` rows at the start of the page, and gives its length.
+// The rows come as `listing::list` leaves them in lent memory: two tables and how many rows of them are filled.
 pub fn put_list(
     page: &mut [u8; MAX_TEXT],
     cuts: &[u64; MAX_ROWS],
@@ -152,14 +110,25 @@ pub fn put_list(
 ) -> usize
     ensures { Printed (list_text (take count cuts.now) (take count sides.now)) page.old page.new result }
 {
-    let rows = rows_up_to(count);
-    let count_end = write_word(page, b"cuts", rows);
-    write_rows(page, count_end, cuts, sides, rows)
+    let rows = count.min(MAX_ROWS);
+    let mut list = Page {
+        bytes: page,
+        len: 0,
+    };
+    list.word_line(b"cuts", rows);
+    list.rows(&cuts[..rows], &sides[..rows]);
+    list.len
 }
 
 // Makes the line that says by its number why there is no list, likewise.
+// `put_refusal` promises a line for every number of 8 bits, also for one that no refusal has.
 pub fn put_refusal(page: &mut [u8; MAX_TEXT], refusal: u8) -> usize
     ensures { Printed (refusal_line refusal) page.old page.new result }
 {
-    write_word(page, b"refused", refusal as usize)
+    let mut line = Page {
+        bytes: page,
+        len: 0,
+    };
+    line.word_line(b"refused", refusal as usize);
+    line.len
 }

@@ -1,18 +1,23 @@
 -- A visit of the sink, the source visited before: whether it has visited all nodes tells whether all are relevant.
 -- Assumes a sound network and its table.
-use mathlib.Core.Path.{◌≡◌, refl, sym}
+use mathlib.Core.Path.{◌≡◌, refl, sym, ◌∙◌}
+use mathlib.Core.Bool.{true, false, true≢false}
 use mathlib.Core.List.Memᴰ
 use mathlib.Core.List.{List}
 use mathlib.Core.Logic.Dec
 use mathlib.Core.Logic.{◌⊎◌, inl, inr, Ne-symm}
 use Prim.Native.Nat.{ℕ, ◌-◌, ◌^◌, ◌<◌}
 use native.Mathlib.Decide.{ℕ_discrete}
+use borrow.Author.Tests.{ne_eqb}
 use lib.Dec.{eqb}
 use lib.ListN.{get_or}
+use Rattle.std.specs.Prelude.{Option, Some, None}
+use Rattle.std.specs.Option.{is_some}
 use Rattle.sequences.proofs.Tests.{T-eqb}
 use Rattle.bitset.specs.Members.{has, ◌∈◌, ◌∖◌}
 use Rattle.bitset.proofs.Subsets.{⊆-antisym, same_test}
 use Rattle.bitset.proofs.Sets.{∈-dec, in_insert, in-minus, in-or-minus, in-single, in_ones}
+use Rattle.node_set.specs.declared.NodeSet.{NodeSet}
 use Rattle.network.specs.declared.Network.{Network}
 use Rattle.graph.specs.Paths.{Joins, edges_of}
 use Rattle.graph.specs.Cuts.{RelevantNode}
@@ -25,7 +30,7 @@ use Rattle.graph.proofs.Relevant.{in-past, relevant-lt}
 use Rattle.graph.proofs.Trimmed.{nodes-whole}
 use Rattle.adjacency.specs.Adjacency.{Adjacency}
 use Rattle.adjacency.proofs.Reaching.{adjacency-mutual}
-use Rattle.trimmed.specs.Visits.{ClosedBut, Found, Visited, VisitEnds}
+use Rattle.trimmed.specs.Visits.{ClosedBut, Found, Visited, VisitEnds, after_of, back_of}
 
 module _ (N : Network) (S : Sound N) (adjacent : List ℕ) (table : Adjacency N adjacent) where
   -- The set of all nodes.
@@ -134,3 +139,18 @@ module _ (N : Network) (S : Sound N) (adjacent : List ℕ) (table : Adjacency N 
       (λ j. h.apart N.source j ((in_insert (2 ^ N.source) N.sink N.source).1 (inl ((in-single N.source N.source).1 refl))))
       (λ j. h.apart N.sink j ((in_insert (2 ^ N.source) N.sink N.sink).1 (inr refl)))
       h.other h.alone k m ((nodes-whole N S).0 ((T-eqb _ _).0 t) k (row_lt h.holder k i))))
+
+  -- Where the walk has ended, the visited nodes tell; where it is over, not all are relevant.
+  module _ (visited : ℕ) where
+    pub some-tells : (a : Option NodeSet) → VisitEnds adjacent (2 ^ N.source) N.sink (after_of (2 ^ N.source) visited a) (back_of a)
+        → true ≡ is_some a → eqb visited all ≡ eqb (relevant_nodes N) all
+    some-tells (Some back) ends is = ends-tell visited back.0 ends
+    some-tells None ends is = absurd (true≢false is)
+
+    pub none-tells : (a : Option NodeSet) → VisitEnds adjacent (2 ^ N.source) N.sink (after_of (2 ^ N.source) visited a) (back_of a)
+        → false ≡ is_some a → false ≡ eqb (relevant_nodes N) all
+    none-tells (Some back) ends is = absurd (true≢false (sym is))
+    none-tells None ends is =
+        let lacks : 2 ^ N.source ≡ all → ⊥ =
+        λ e. S.differ (sym ((in-single N.source N.sink).0 (rw e ((in_ones N.nodes N.sink).1 S.sink-lt)))) in
+        sym (ne_eqb (2 ^ N.source) all lacks) ∙ ends-tell (2 ^ N.source) 0 ends

@@ -8,16 +8,16 @@ use mathlib.Core.Bool.{Bool, false, not, ◌&&◌}
 use mathlib.Core.List.{List}
 use mathlib.Core.Logic
 use mathlib.Core.Logic.{◌⊎◌, inl, inr, ◌↔◌}
-use Prim.Native.Nat.{ℕ, ◌^◌, ◌<◌}
+use Prim.Native.Nat.{ℕ, ◌-◌, ◌^◌, ◌<◌}
 use native.Mathlib.Decide.{ℕ_discrete}
-use denote.Floats.{is_true}
+use denote.Floats.{is_true, passes}
 use lib.Dec.{T, eqb}
 use lib.ListN.{get_or}
 use Rattle.sequences.proofs.Tests.{T-dec, T_not}
-use Rattle.bitset.specs.Members.{has, insert, ◌∈◌, ◌⊆◌, ◌∖◌}
+use Rattle.bitset.specs.Members.{has, insert, ◌∈◌, ◌⊆◌, ◌∖◌, Lowest}
 use Rattle.bitset.proofs.Subsets.{subset-lt, same_test}
-use Rattle.bitset.proofs.Sets.{not-zero, in_insert, in-minus, in-or-minus, minus-steps, insert-minus, in-single, empty-or-member}
-use Rattle.bitset.proofs.Results.{in_without}
+use Rattle.bitset.proofs.Sets.{not-zero, in_insert, in-minus, in-or-minus, minus-steps, insert-minus, in-single, in_ones, empty-or-member}
+use Rattle.bitset.proofs.Results.{in_without, in-difference}
 use Rattle.spread.specs.Spread.{AdjacentTo}
 use Rattle.adjacency.specs.Adjacency.{Mutual}
 use Rattle.trimmed.specs.Visits.{ClosedBut, Reaches, Found, Visited, Hanging, VisitEnds}
@@ -28,6 +28,13 @@ pub record Visiting (adjacent : List ℕ) (before v visited beside : ℕ) : Type
   pub found : Found adjacent before v visited
   pub closed : (u w : ℕ) → u ∈ (visited ∖ before) → (u ≡ v → ⊥) → w ∈ get_or adjacent u 0 → w ∈ visited
   pub besides : (w : ℕ) → w ∈ before → (w ∈ beside) ↔ AdjacentTo adjacent (visited ∖ before) w
+
+-- ---- the next node
+
+-- The lowest of the fresh nodes, if there is one, is of the row and not visited.
+pub next-fresh : (w row visited fresh k : ℕ) → ((j : ℕ) → has fresh j ≡ has row j && not (has visited j)) → Lowest w fresh k → k < w
+    → (k ∈ row) × (k ∈ visited → ⊥)
+next-fresh w row visited fresh k is-fresh low h = (in-difference row visited fresh is-fresh k).0 (passes (has fresh k) (low.member h))
 
 -- ---- ways back
 
@@ -42,11 +49,15 @@ module _ (ways v others : ℕ) (drops : (j : ℕ) → has others j ≡ has ways 
 
 -- ---- what is reached
 
--- What was found is more than what was visited before.
-pub found-larger : (adjacent : List ℕ) (before v after : ℕ) → Found adjacent before v after → before < after
-found-larger adjacent before v after f =
+-- Of the nodes that there can be, fewer are left once some were found.
+pub found-fewer : (adjacent : List ℕ) (n before v after : ℕ) → Found adjacent before v after → v < n → ((2 ^ n - 1) ∖ after) < ((2 ^ n - 1) ∖ before)
+found-fewer adjacent n before v after f h =
+    let all : ℕ = 2 ^ n - 1 in
     let p = (in-minus after before v).0 f.visits in
-    subset-lt before after v f.keeps (is_true (has after v) p.0) (same_test (has before v) false p.1 absurd)
+    subset-lt (all ∖ after) (all ∖ before) v
+    (λ w m. let q = (in-minus all after w).0 m in (in-minus all before w).1 (q.0, λ i. q.1 (f.keeps w i)))
+    (is_true (has (all ∖ before) v) ((in-minus all before v).1 ((in_ones n v).1 h, p.1)))
+    (same_test (has (all ∖ after) v) false (λ m. ((in-minus all after v).0 m).1 p.0) absurd)
 
 -- A test that passes w passes the set of w alone.
 single-passes : (r : ℕ → Bool) (c w : ℕ) → ((w ≡ c → ⊥) → T (r w)) → (x : ℕ) → x ∈ 2 ^ w → (x ≡ c → ⊥) → T (r x)

@@ -9,9 +9,12 @@
 --                                adjacent to a new one; `back` are the nodes of before that are
 --   Hanging adjacent visited     some nodes, none of them visited, hang on one other node alone
 --   VisitEnds adjacent before v after back   a visit ends so, or with some nodes that hang on one, having visited nothing and with no way back
-use Rattle.std.specs.Prelude.{Bool, List, ◌⊎◌, ◌↔◌, ◌≡◌, ℕ, ◌^◌, T, get_or}
+--   after_of before visited a    the nodes visited after the visit that answers a: the visited ones, but where the walk is over those of before
+--   back_of a                    which of the nodes before are adjacent to one of its own: where the walk is over, none
+use Rattle.std.specs.Prelude.{Bool, List, Option, Some, None, ◌⊎◌, ◌↔◌, ◌≡◌, ℕ, ◌^◌, T, get_or}
 use Rattle.bitset.specs.Members.{insert, ◌∈◌, ◌⊆◌, ◌∖◌}
 use Rattle.spread.specs.Spread.{AdjacentTo}
+use Rattle.node_set.specs.declared.NodeSet.{NodeSet}
 
 -- A test, and not a set: then what it does not pass is closed too, where the table is mutual.
 abbrev pub ClosedBut : List ℕ → ℕ → (ℕ → Bool) → Type 0
@@ -44,3 +47,11 @@ pub record Hanging (adjacent : List ℕ) (visited : ℕ) : Type 0 where
 abbrev pub VisitEnds : List ℕ → ℕ → ℕ → ℕ → ℕ → Type 0
 VisitEnds adjacent before v after back =
     Visited adjacent before v after back ⊎ ((after ≡ before) × (back ≡ 0) × Hanging adjacent (insert before v))
+
+abbrev pub after_of : ℕ → ℕ → Option NodeSet → ℕ
+after_of before visited (Some back) = visited
+after_of before visited None = before
+
+abbrev pub back_of : Option NodeSet → ℕ
+back_of (Some back) = back.0
+back_of None = 0

@@ -5,13 +5,16 @@ use mathlib.Core.Path.{◌≡◌, sym, ap, ◌∙◌}
 use Prim.Native.Nat.{ℕ}
 use native.Mathlib.Decide.{ℕ_discrete}
 use lib.ListN.{length, replicate}
+use Rattle.std.specs.Prelude.{Result, Ok, Err}
+use Rattle.std.specs.Result.{IsErrAnd}
 use Rattle.network.specs.declared.Network.{Network}
 use Rattle.network.specs.Record.{rows_fault, Stored}
-use Rattle.network.proofs.Refusals.{refused_none, refused-some}
+use Rattle.network.specs.declared.refusal.Refusal.{Refusal}
+use Rattle.network.specs.Refusals.{number_of}
+use Rattle.network.proofs.Refusals.{number-some, refused_none, refused-some}
 use Rattle.network.proofs.Rules.{fault-rules}
 use Rattle.network.proofs.Sets.{rows_none, rows_ok}
-use Rattle.widths.specs.declared.Widths.{Widths}
-use Rattle.widths.specs.Widths.{width_table, widths_of, WidthsMean}
+use Rattle.widths.specs.Widths.{Widths, counted, width_table, widths_of, WidthsMean}
 use Rattle.widths.proofs.WidthTable.{length-table, table_at, table-sum}
 
 module _ (N : Network) (cuts : List ℕ) where
@@ -24,6 +27,12 @@ module _ (N : Network) (cuts : List ℕ) where
       → record { refusal = 0; counts = t } ≡ widths_of N cuts
   unfolding widths_of
   widths-given r t e none f = rw (← e, none, f)
+
+  -- A refusal that is passed on is one.
+  pub widths-passed : (a : Result (List ℕ) Refusal) (r : Refusal) → IsErrAnd a (λ e. e ≡ r) → number_of r ≡ rows_fault N cuts
+      → counted a ≡ widths_of N cuts
+  widths-passed (Ok t) r h e = absurd h
+  widths-passed (Err q) r h e = widths-refused (number_of q) (ap number_of h ∙ e) (number-some q)
 
   -- Beside the answer stands what it means.
   pub widths-mean : Stored N → {a : Widths} → a ≡ widths_of N cuts → (a ≡ widths_of N cuts) × WidthsMean N cuts a.refusal a.counts

@@ -5,11 +5,16 @@ use mathlib.Core.List.Memᴰ
 use mathlib.Core.List.{List, [], ◌∷◌, map, map-append, ◌++◌, Memᴰ}
 use mathlib.Core.Logic.{◌⊎◌, inl, inr, ◌↔◌}
 use mathlib.Core.Path.{◌≡◌, refl, sym, ap, ◌∙◌}
-use Prim.Native.Nat.{ℕ, ◌+◌, ◌^◌, ◌≤◌, ◌<◌}
+use Prim.Native.Nat.{ℕ, zero, suc, ◌+◌, ◌-◌, ◌*◌, ◌^◌, ◌/◌, ◌≤◌, ◌<◌}
 use native.Mathlib.Decide.{ℕ_discrete, dec_lt}
 use native.Mathlib.Numerals.{add-one}
 use native.Mathlib.Omega.{arith}
-use lib.ListN.{length, length-set, get_or, set, take}
+use lib.ListN.{length, length-set, get_or, set, take, drop}
+use Rattle.std.specs.Prelude.{Some, slice_get}
+use Rattle.std.specs.Simd.{first_chunks}
+use Rattle.std.proofs.lemmas.List.{get_or-take, get_or-drop}
+use Rattle.std.proofs.lemmas.Option.{slice_get_within, get_or_from_slice_get}
+use Rattle.std.proofs.Common.{length-drop}
 use lib.Seq.{take-suc, get_or-set_same, get_or-set_other, set_out}
 use Rattle.sequences.specs.Counts.{tally}
 use Rattle.sequences.proofs.Tally.{tally-le, tally-next}
@@ -27,6 +32,27 @@ use Rattle.widths.proofs.WidthTable.{table-by}
 -- One row more.
 row_next : (rows : List ℕ) (i : ℕ) → i < length rows → take (i + 1) rows ≡ take i rows ++ get_or rows i 0 ∷ []
 row_next rows i h = ap (λ n. take n rows) (add-one i) ∙ take-suc rows i 0 h
+
+-- The rows by two: each pair holds the rows of its two places.
+pub pair-at : (k i j p : ℕ) (rows : List ℕ) → i < k → j < 2 → p ≡ 2 * i + j → get_or (get_or (first_chunks 2 k rows) i []) j 0 ≡ get_or rows p 0
+pair-at zero i j p rows h l e = absurd (omega arith)
+pair-at (suc k) zero j p rows h l e =
+    let place : j ≡ p = omega arith in
+    get_or-take 2 rows j 0 l ∙ ap (λ n. get_or rows n 0) place
+pair-at (suc k) (suc i) j p rows h l e =
+    let place : 2 + (p - 2) ≡ p = omega arith in
+    pair-at k i j (p - 2) (drop 2 rows) (omega arith) l (omega arith) ∙ get_or-drop 2 rows (p - 2) 0 ∙ ap (λ n. get_or rows n 0) place
+
+-- What they leave over is the last row, if there is one.
+pub last-row : (rows rest : List ℕ) (row i : ℕ) → i ≡ length rows / 2 → rest ≡ drop (length rows / 2 * 2) rows → Some row ≡ slice_get rest 0
+    → (row ≡ get_or rows (2 * i) 0) × (2 * i + 1 ≡ length rows)
+last-row rows rest row i half e first =
+    let some : 0 < length rest = slice_get_within rest 0 row (sym first) in
+    let over : length rest ≡ length rows - length rows / 2 * 2 = rw e (length-drop (length rows / 2 * 2) rows) in
+    let place : length rows / 2 * 2 + 0 ≡ 2 * i = omega arith in (
+      sym (get_or_from_slice_get rest 0 row 0 (sym first)) ∙ rw e (get_or-drop (length rows / 2 * 2) rows 0 0) ∙ ap (λ n. get_or rows n 0) place,
+      omega arith,
+    )
 
 -- ---- edges together
 

@@ -9,6 +9,7 @@ ghost use Rattle.widths.specs.Widths.{width_table};
 
 use edge_set::EdgeSet;
 use network::Network;
+use sets::BitSet;
 use twins::leading;
 
 // No row of any width.
@@ -38,16 +39,15 @@ pub(crate) fn by_size(rows: &[u64]) -> RowCounts
 {
     let mut counts = NONE;
     let mut edges = EdgeSet::empty();
-    let mut i = 0;
-    while 1 < rows.len() - i {
-        let one = EdgeSet(rows[i]);
-        let next = EdgeSet(rows[i + 1]);
+    let (pairs, rest) = rows.as_chunks::<2>();
+    for pair in pairs {
+        let one = EdgeSet(pair[0]);
+        let next = EdgeSet(pair[1]);
         edges = edges.union(one).union(next);
         raise_two(&mut counts, one.size() as usize, next.size() as usize);
-        i += 2;
     }
-    if i < rows.len() {
-        let last = EdgeSet(rows[i]);
+    if let Some(&row) = rest.first() {
+        let last = EdgeSet(row);
         edges = edges.union(last);
         let width = last.size() as usize;
         counts[width] += 1;
@@ -63,13 +63,11 @@ pub(crate) fn by_leading(lower: &[u64; 64], alone: EdgeSet, rows: &[u64]) -> Row
 {
     let mut counts = NONE;
     let mut edges = EdgeSet::empty();
-    let mut i = 0;
-    while i < rows.len() {
-        let row = EdgeSet(rows[i]);
+    for &row in rows {
+        let row = EdgeSet(row);
         edges = edges.union(row);
         let width = leading(lower, alone, row).size() as usize;
         counts[width] += 1;
-        i += 1;
     }
     RowCounts { counts, edges }
 }

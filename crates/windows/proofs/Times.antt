@@ -8,15 +8,13 @@ use mathlib.Core.Bool.{Bool, true, false, cond, ◌&&◌, ◌||◌}
 use mathlib.Core.List.Memᴰ
 use mathlib.Core.List.{List, [], ◌∷◌, ◌++◌, Memᴰ}
 use mathlib.Core.Logic.{◌⊎◌, inl, inr}
-use mathlib.Core.Path.{◌≡◌, refl, ap, ap₂, ◌∙◌}
-use Prim.Native.Nat.{ℕ, suc, ◌+◌, ◌*◌, ◌≤◌, ◌<◌, zero-le}
+use mathlib.Core.Path.{◌≡◌, refl, ap₂, ◌∙◌}
+use Prim.Native.Nat.{ℕ, ◌+◌, ◌*◌, ◌≤◌, ◌<◌, zero-le}
 use native.Mathlib.Omega.{arith}
 use borrow.Author.Tests.{ltb-true, ltb-false, leb-true, leb-false, lt-ltb, le-ltb, le-leb, lt-leb}
 use lib.Dec.{leb, ltb}
-use lib.ListN.{length, get_or, drop, length-append, length-drop}
-use lib.Seq.{drop-cons}
+use lib.ListN.{length, length-append}
 use Rattle.sequences.specs.Counts.{bit, count_if}
-use Rattle.sequences.proofs.Places.{drop-three}
 use Rattle.sequences.proofs.Counts.{count-nil, count-cons, count-le}
 use Rattle.bitset.specs.Members.{add_if}
 use Rattle.windows.specs.Windows.{covers, is_open, out_at, opening_count, works_count}
@@ -92,40 +90,6 @@ module _ (m : ℕ) where
   unfolding soonest
   soonest-append [] l n = refl
   soonest-append (t ∷ k) l n = soonest-append k l (sooner m t n)
-
--- ---- the next time, from an offset on
-
-module _ (m n : ℕ) (l : List ℕ) (i : ℕ) where
-  -- Of opening windows every number is a time;
-  pub time-step : i < length l → soonest m n (drop i l) ≡ soonest m (sooner m (get_or l i 0) n) (drop (i + 1) l)
-  unfolding soonest
-  time-step h =
-      let one : suc i ≡ i + 1 = omega arith in
-      ap (soonest m n) (drop-cons l i 0 h) ∙ ap (λ j. soonest m (sooner m (get_or l i 0) n) (drop j l)) one
-
-  pub time-end : length l ≤ i → soonest m n (drop i l) ≡ n
-  unfolding soonest
-  time-end h = go (drop i l) (omega (arith, length-drop i l))
-    where
-      go : (d : List ℕ) → length d ≤ 0 → soonest m n d ≡ n
-      go [] s = refl
-      go (x ∷ d) s = absurd (omega arith)
-
-  -- of works windows two of three are.
-  pub booked-step : i + 2 < length l
-      → soonest m n (times_of (drop i l)) ≡ soonest m (sooner m (get_or l (i + 1) 0) (sooner m (get_or l i 0) n)) (times_of (drop (i + 3) l))
-  unfolding soonest times_of
-  booked-step h = ap (λ d. soonest m n (times_of d)) (drop-three l i h)
-
-  pub booked-end : length l ≤ i + 2 → soonest m n (times_of (drop i l)) ≡ n
-  unfolding soonest times_of
-  booked-end h = go (drop i l) (omega (arith, length-drop i l))
-    where
-      go : (d : List ℕ) → length d ≤ 2 → soonest m n (times_of d) ≡ n
-      go [] s = refl
-      go (x ∷ []) s = refl
-      go (x ∷ y ∷ []) s = refl
-      go (x ∷ y ∷ z ∷ d) s = absurd (omega arith)
 
 -- ---- until then
 

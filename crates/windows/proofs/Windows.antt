@@ -1,4 +1,4 @@
--- Windows one by one, as the code takes them from an offset on: what is open, what is out, and the faults.
+-- Windows one by one, as the code takes them: what is out, and the faults.
 -- Assumes nothing.
 --
 --   Gathered l m out i       before the window at i: what is gathered of the edges out in the minute m
@@ -7,7 +7,7 @@ use mathlib.Core.Bool.{Bool, true, false, not, ◌||◌}
 use mathlib.Core.List.{List, [], ◌∷◌}
 use mathlib.Core.Logic.{◌⊎◌, inl, inr, ◌↔◌}
 use mathlib.Core.Path.{◌≡◌, refl, sym, ap, ◌∙◌}
-use Prim.Native.Nat.{ℕ, zero, suc, ◌+◌, ◌^◌, ◌≤◌, ◌<◌, zero-le}
+use Prim.Native.Nat.{ℕ, zero, suc, ◌+◌, ◌*◌, ◌/◌, ◌^◌, ◌≤◌, ◌<◌}
 use native.Mathlib.Decide.{ℕ_discrete}
 use native.Mathlib.Omega.{arith}
 use borrow.Author.Tests.{ltb-false, leb-false, le-ltb, lt-leb}
@@ -15,36 +15,13 @@ use denote.Floats.{passes, is_true}
 use lib.Dec.{T, leb, ltb}
 use lib.ListN.{length, get_or, drop, length-drop}
 use lib.Seq.{drop-length}
-use Rattle.sequences.proofs.Places.{drop-two, drop-three}
 use Rattle.bitset.specs.Members.{has, ◌∈◌, ◌⊆◌, add_if}
 use Rattle.bitset.proofs.Sets.{not-zero, in-add_if, member-lt}
 use Rattle.bitset.proofs.Subsets.{⊆-antisym}
 use Rattle.network.specs.Record.{◌when◌, ◌then◌}
 use Rattle.network.proofs.Refusals.{none_then, some_then, when-none, none-when, some-when, or-none}
-use Rattle.windows.specs.Windows.{week, covers, is_open, out_at, window_fault, booking_fault, openings_fault, works_fault, Window, Openings, Works, BadWindow, AbsentEdge}
-
--- ---- opening windows
-
-module _ (l : List ℕ) (i m : ℕ) where
-  -- A minute is open by the first window,
-  pub open-here : i + 1 < length l → covers (get_or l i 0) (get_or l (i + 1) 0) m ≡ true → is_open (drop i l) m ≡ true
-  unfolding is_open
-  open-here h t = ap (λ d. is_open d m) (drop-two l i h) ∙ ap (λ b. b || is_open (drop (i + 2) l) m) t
-
-  -- or by a later one,
-  pub open-later : i + 1 < length l → covers (get_or l i 0) (get_or l (i + 1) 0) m ≡ false → is_open (drop i l) m ≡ is_open (drop (i + 2) l) m
-  unfolding is_open
-  open-later h f = ap (λ d. is_open d m) (drop-two l i h) ∙ ap (λ b. b || is_open (drop (i + 2) l) m) f
-
-  -- and by none where none is left.
-  pub open-end : length l ≤ i + 1 → is_open (drop i l) m ≡ false
-  unfolding is_open
-  open-end h = go (drop i l) (omega (arith, length-drop i l))
-    where
-      go : (d : List ℕ) → length d ≤ 1 → is_open d m ≡ false
-      go [] s = refl
-      go (x ∷ []) s = refl
-      go (x ∷ y ∷ d) s = absurd (omega arith)
+use Rattle.windows.proofs.Chunks.{pairs, triples, pair-front, triple-front}
+use Rattle.windows.specs.Windows.{week, covers, out_at, window_fault, booking_fault, openings_fault, works_fault, Window, Openings, Works, BadWindow, AbsentEdge}
 
 -- ---- works windows
 
@@ -55,36 +32,34 @@ in-out s e k later m j = in-add_if (covers s e m) (out_at later m) k j
 
 -- Before the window at i: what is out is what was gathered, and what the windows from i on take out; and these keep the rules.
 pub record Gathered (l : List ℕ) (m out i : ℕ) : Type 0 where
-  pub place : i ≤ length l
-  pub rules : (p : ℕ) × (p < 2 ^ 64) × Works p (drop i l)
-  pub members : (j : ℕ) → (j ∈ out_at l m) ↔ ((j ∈ out) ⊎ (j ∈ out_at (drop i l) m))
+  pub rules : (p : ℕ) × (p < 2 ^ 64) × Works p (drop (3 * i) l)
+  pub members : (j : ℕ) → (j ∈ out_at l m) ↔ ((j ∈ out) ⊎ (j ∈ out_at (drop (3 * i) l) m))
 
 module _ (l : List ℕ) (m : ℕ) where
   -- At first nothing is gathered.
   pub none-gathered : ((p : ℕ) × (p < 2 ^ 64) × Works p l) → {out : ℕ} → out ≡ 0 → Gathered l m out 0
   none-gathered rules e = record {
-    place = zero-le;
     rules = rules;
     members = λ j. (inr, λ c. elim c [ inl a ↦ absurd (not-zero j (rw e at a)) | inr b ↦ b ]);
   }
 
   module _ {out i : ℕ} (g : Gathered l m out i) where
-    module _ (h : i + 2 < length l) where
+    module _ {w : List (List ℕ)} (same : w ≡ triples l) (h : i < length w) where
       abbrev start : ℕ
-      start = get_or l i 0
+      start = get_or (get_or w i []) 0 0
 
       abbrev end : ℕ
-      end = get_or l (i + 1) 0
+      end = get_or (get_or w i []) 1 0
 
       abbrev edge : ℕ
-      edge = get_or l (i + 2) 0
+      edge = get_or (get_or w i []) 2 0
 
       -- What the rules say of the window at i, and of the later ones.
-      window : (p : ℕ) × (p < 2 ^ 64) × (edge ∈ p) × Works p (drop (i + 3) l)
+      window : (p : ℕ) × (p < 2 ^ 64) × (edge ∈ p) × Works p (drop (3 * (i + 1)) l)
       unfolding Works
       window =
-          let (p, small, w) = g.rules in
-          let parts : Works p (start ∷ end ∷ edge ∷ drop (i + 3) l) = rw (drop-three l i h) at w in
+          let (p, small, kept) = g.rules in
+          let parts : Works p (start ∷ end ∷ edge ∷ drop (3 * (i + 1)) l) = rw (triple-front l same i h) at kept in
           (p, small, parts.1, parts.2)
 
       -- Its edge has a slot.
@@ -92,17 +67,17 @@ module _ (l : List ℕ) (m : ℕ) where
       edge-lt = let (p, small, here, later) = window in member-lt 64 p edge small here
 
       -- Its edge is gathered if it holds the minute.
-      pub more-gathered : {out' : ℕ} → out' ≡ add_if (covers start end m) out edge → Gathered l m out' (i + 3)
+      pub more-gathered : {out' : ℕ} → out' ≡ add_if (covers start end m) out edge → Gathered l m out' (i + 1)
       more-gathered {out'} e =
           let (p, small, here, later) = window in
           record {
-            place = omega arith;
             rules = (p, small, later);
             members = λ j.
                 let whole = g.members j in
                 let put : (j ∈ out') ↔ ((j ∈ out) ⊎ (T (covers start end m) × (j ≡ edge))) = rw e (in-add_if (covers start end m) out edge j) in
-                let first : (j ∈ out_at (drop i l) m) ↔ ((j ∈ out_at (drop (i + 3) l) m) ⊎ (T (covers start end m) × (j ≡ edge))) =
-                rw (drop-three l i h) (in-out start end edge (drop (i + 3) l) m j) in (
+                let first : (j ∈ out_at (drop (3 * i) l) m)
+                ↔ ((j ∈ out_at (drop (3 * (i + 1)) l) m) ⊎ (T (covers start end m) × (j ≡ edge))) =
+                rw (triple-front l same i h) (in-out start end edge (drop (3 * (i + 1)) l) m j) in (
                   λ o. elim (whole.0 o) [
                     | inl a ↦ inl (put.1 (inl a))
                     | inr b ↦ elim (first.0 b) [ inl c ↦ inr c | inr d ↦ inl (put.1 (inr d)) ]
@@ -115,11 +90,11 @@ module _ (l : List ℕ) (m : ℕ) where
           }
 
     -- Past the last window everything is gathered.
-    pub all-gathered : length l ≤ i + 2 → out ≡ out_at l m
+    pub all-gathered : length l / 3 ≤ i → out ≡ out_at l m
     unfolding out_at
     all-gathered h =
-        let none : out_at (drop i l) m ≡ 0 = go (drop i l) (omega (arith, length-drop i l)) in
-        let over : (j : ℕ) → j ∈ out_at (drop i l) m → ⊥ = λ j o. not-zero j (rw none at o) in
+        let none : out_at (drop (3 * i) l) m ≡ 0 = go (drop (3 * i) l) (omega (arith, length-drop (3 * i) l)) in
+        let over : (j : ℕ) → j ∈ out_at (drop (3 * i) l) m → ⊥ = λ j o. not-zero j (rw none at o) in
         ⊆-antisym out (out_at l m) (λ j a. (g.members j).1 (inl a))
         (λ j o. elim ((g.members j).0 o) [ inl a ↦ a | inr b ↦ absurd (over j b) ])
       where
@@ -255,14 +230,15 @@ works-more p q more (s ∷ e ∷ k ∷ later) f = go (window_fault s e) (has p k
     go zero false t rest f = absurd (f (rw t refl))
     go (suc r) b t rest f = refl
 
--- ---- faults from an offset on
+-- ---- faults from a window on
 
 module _ (l : List ℕ) (i : ℕ) where
   -- The first fault from a window on is its own, or else that of the later ones;
-  pub openings-step : i + 1 < length l
-      → openings_fault (drop i l) ≡ (window_fault (get_or l i 0) (get_or l (i + 1) 0) then openings_fault (drop (i + 2) l))
+  pub openings-step : {w : List (List ℕ)} → w ≡ pairs l → i < length w
+      → openings_fault (drop (2 * i) l)
+      ≡ (window_fault (get_or (get_or w i []) 0 0) (get_or (get_or w i []) 1 0) then openings_fault (drop (2 * (i + 1)) l))
   unfolding openings_fault
-  openings-step h = ap openings_fault (drop-two l i h)
+  openings-step e h = ap openings_fault (pair-front l e i h)
 
   -- of a piece it is 24, and where nothing is left none.
   pub openings-piece : i < length l → length l ≤ i + 1 → openings_fault (drop i l) ≡ 24
@@ -279,11 +255,12 @@ module _ (l : List ℕ) (i : ℕ) where
   openings-end e = ap (λ j. openings_fault (drop j l)) e ∙ ap openings_fault (drop-length l)
 
   module _ (p : ℕ) where
-    pub works-step : i + 2 < length l
-        → works_fault p (drop i l)
-        ≡ (booking_fault p (get_or l i 0) (get_or l (i + 1) 0) (get_or l (i + 2) 0) then works_fault p (drop (i + 3) l))
+    pub works-step : {w : List (List ℕ)} → w ≡ triples l → i < length w
+        → works_fault p (drop (3 * i) l)
+        ≡ (booking_fault p (get_or (get_or w i []) 0 0) (get_or (get_or w i []) 1 0) (get_or (get_or w i []) 2 0)
+        then works_fault p (drop (3 * (i + 1)) l))
     unfolding works_fault
-    works-step h = ap (works_fault p) (drop-three l i h)
+    works-step e h = ap (works_fault p) (triple-front l e i h)
 
     pub works-piece : i < length l → length l ≤ i + 2 → works_fault p (drop i l) ≡ 24
     unfolding works_fault

@@ -9,8 +9,8 @@ use crate::WEEK;
 fn sooner(minute: u16, time: u16, next: u16) -> u16
     ensures { result ≡ sooner minute time next }
 {
-    if minute < time {
-        if time < next { time } else { next }
+    if minute < time && time < next {
+        time
     } else {
         next
     }
@@ -20,17 +20,12 @@ fn sooner(minute: u16, time: u16, next: u16) -> u16
 pub fn next_change(openings: &[u16], works: &[u16], minute: u16) -> u16
     ensures { result ≡ soonest minute week (openings.now ++ times_of works.now) }
 {
-    let mut next = WEEK;
-    let mut i = 0;
-    while i < openings.len() {
-        next = sooner(minute, openings[i], next);
-        i += 1;
-    }
-    let mut at = 0;
-    while at + 2 < works.len() {
-        next = sooner(minute, works[at], next);
-        next = sooner(minute, works[at + 1], next);
-        at += 3;
-    }
-    next
+    let next = openings
+        .iter()
+        .fold(WEEK, |next, &time| sooner(minute, time, next));
+    let (windows, _) = works.as_chunks::<3>();
+    windows.iter().fold(next, |next, &[start, end, _]| {
+        let next = sooner(minute, start, next);
+        sooner(minute, end, next)
+    })
 }

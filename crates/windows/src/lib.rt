@@ -12,6 +12,7 @@
 mod changes;
 mod faults;
 mod minute;
+mod window;
 
 pub use changes::next_change;
 pub use faults::{openings_fault, works_fault};

@@ -2,20 +2,24 @@
 -- Assumes nothing.
 --
 --   Answered N l answer after     for N and the buffer l the writer gives this answer and leaves `after`
-use mathlib.Core.List.{List, [], ◌∷◌, ◌++◌}
-use mathlib.Core.Path.{◌≡◌, refl, ap, sym, ◌∙◌}
-use Prim.Native.Nat.{ℕ, ◌+◌, ◌-◌, ◌≤◌, ◌<◌, zero-le}
+use mathlib.Core.List.{List, [], ◌∷◌, ◌++◌, append_assoc}
+use mathlib.Core.Path.{◌≡◌, refl, ap, ap₂, sym, ◌∙◌}
+use Prim.Native.Nat.{ℕ, ◌+◌, ◌-◌, ◌≤◌, zero-le}
 use native.Mathlib.Omega.{arith}
 use lib.ListN.{length, take, drop, set, length-drop}
-use lib.Seq.{sets, take_at, take-length, drop-drop, drop_at, length-take-le, length-sets}
+use lib.Seq.{sets, sets-eq, take_at, take-length, drop-drop, drop_at, length-take-le, length-sets}
+use borrow.Rule.Slice.PartMut.{put_mid}
+use Rattle.std.specs.Prelude.{Result, Ok, Err}
+use Rattle.std.specs.Result.{IsErrAnd}
 use Rattle.network.specs.declared.Network.{Network}
 use Rattle.network.specs.Record.{fault_of, Stored}
-use Rattle.network.proofs.Refusals.{then-none, refused-some}
-use Rattle.format.specs.declared.Encoded.{Encoded}
-use Rattle.format.specs.Format.{accept, decode_of, encode_of, encode_refusal, encoded_by, bytes_after, WrittenTo}
+use Rattle.network.specs.declared.refusal.Refusal.{Refusal}
+use Rattle.network.specs.Refusals.{number_of}
+use Rattle.network.proofs.Refusals.{then-none, number-some, refused-some}
+use Rattle.format.specs.Format.{Encoded, encoded, accept, decode_of, encode_of, encode_refusal, encoded_by, bytes_after, WrittenTo}
 use Rattle.format.specs.Meaning.{WrittenMeans}
-use Rattle.format.proofs.Commands.{rest, rest_all, rest_some, encode-size}
-use Rattle.format.proofs.Writing.{encode-decode, written-length, written_next, next-room}
+use Rattle.format.proofs.Commands.{rest, rest_some, encode-header, encode-size}
+use Rattle.format.proofs.Writing.{encode-decode, written_next, next-room}
 
 -- What the writer answers and leaves.
 abbrev pub Answered : Network → List ℕ → Encoded → List ℕ → Type 0
@@ -25,6 +29,12 @@ Answered N l answer after = (answer ≡ encoded_by N l) × (after ≡ bytes_afte
 pub encode-refused : (N : Network) (l : List ℕ) (r : ℕ) → r ≡ encode_refusal N l → (r ≡ 0 → ⊥) → Answered N l (record { refusal = r; count = 0 }) l
 unfolding encoded_by bytes_after
 encode-refused N l r e some = rw (← e, refused-some r (length (encode_of N)) 0 some, refused-some r (encode_of N ++ drop (length (encode_of N)) l) l some) (refl, refl)
+
+-- So does one that is passed on.
+pub encode-passed : (N : Network) (l : List ℕ) (a : Result ℕ Refusal) (r : Refusal) → IsErrAnd a (λ e. e ≡ r) → number_of r ≡ encode_refusal N l
+    → Answered N l (encoded a) l
+encode-passed N l (Ok n) r h e = absurd h
+encode-passed N l (Err q) r h e = encode-refused N l (number_of q) (ap number_of h ∙ e) (number-some q)
 
 -- Without one the plan stands in it.
 pub encode-written : (N : Network) (l : List ℕ) (n : ℕ) (after : List ℕ) → encode_refusal N l ≡ 0 → n ≡ length (encode_of N)
@@ -57,6 +67,14 @@ written-means N stored l a =
 
 -- ---- the steps of the writer
 
+-- To write over a part of the buffer is to store the bytes one after the other.
+pub put-part : (at n : ℕ) (p bytes q : List ℕ) → length bytes ≡ n → at + n ≤ length p → q ≡ bytes → put_mid at (at + n - at) p q ≡ sets p at bytes
+put-part at n p bytes q whole room e =
+    let size : at + (at + n - at) ≡ at + length bytes = omega arith in
+    ap₂ (λ x y. take at p ++ (x ++ y)) e (drop-drop (at + n - at) at p ∙ ap (λ k. drop k p) size)
+    ∙ sym (append_assoc (take at p) bytes (drop (at + length bytes) p))
+    ∙ sym (sets-eq bytes p at (omega arith))
+
 -- What stands past the written bytes is what stood there.
 past-written : (e l : List ℕ) (n : ℕ) (p : List ℕ) → WrittenTo e l n p → (m : ℕ) → n ≤ m → drop m p ≡ drop m l
 past-written e l n p w m h =
@@ -73,8 +91,7 @@ module _ (N : Network) (l : List ℕ) (room : length (encode_of N) ≤ length l)
 
   -- The plan begins with the header.
   header-first : drop 0 (encode_of N) ≡ header ++ rest N 0 64
-  unfolding encode_of
-  header-first = ap (λ x. header ++ x) (rest_all N)
+  header-first = encode-header N
 
   pub header-room : 5 ≤ length l
   header-room = next-room (encode_of N) l l 0 header (rest N 0 64) nothing_written header-first
@@ -112,12 +129,6 @@ module _ (N : Network) (l : List ℕ) (room : length (encode_of N) ≤ length l)
 
     all-written : WrittenTo (encode_of N) l (r + 1) (set p r 0x45)
     all-written = written_next (encode_of N) l p r (0x45 ∷ []) [] slots-written left
-
-    pub end-room : r < length p
-    end-room = omega (arith, next-room (encode_of N) l p r (0x45 ∷ []) [] slots-written left)
-
-    pub end-length : length (set p r 0x45) ≡ length l
-    end-length = written-length (encode_of N) l (r + 1) (set p r 0x45) all-written
 
     pub end-bytes : set p r 0x45 ≡ encode_of N ++ drop (length (encode_of N)) l
     end-bytes =

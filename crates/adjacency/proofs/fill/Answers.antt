@@ -1,58 +1,43 @@
-use Prim.Native.Nat.{◌^◌, ◌<◌}
 use borrow.Author.Rules.{rules}
-use denote.Floats.{passes}
 use lib.ListN.{replicate}
-use Rattle.bitset.proofs.Scans.{Less, less-lowest, less-lt, none_left}
+use Rattle.bitset.proofs.Going.{came-lt, all-left, less-came, none-came}
 use Rattle.node_set.specs.Width.{node_width}
-use Rattle.network.specs.Record.{first_end, second_end}
 use Rattle.graph.proofs.Sound.{accepted-sound}
 use Rattle.adjacency.specs.Adjacency.{Adjacency}
 use Rattle.adjacency.proofs.Filling.{linked-length, zeros, filled-first, filled_next, filled-last, ends-fit, adjacency-first, adjacency-next}
 use Rattle.adjacency.proofs.fill.Goals as goal
 
-pub loop-network-init : goal.loop-network-init
-loop-network-init c = filled-first Adjacency _ _ (adjacency-first c.args.network (replicate node_width 0) (zeros node_width))
+pub loop-k-init : goal.loop-k-init
+loop-k-init c = (
+  tt,
+  tt,
+  rw (all-left 64 c.into_iter-k-iterator.result.left c.args.edges.0 (search rules) (search rules))
+      (filled-first Adjacency _ _ (adjacency-first c.args.accepted.network (replicate node_width 0) (zeros node_width))),
+)
 
-pub returns-then-past : goal.returns-then-past
-returns-then-past c =
-    let a = c.args in
-    let l = c.loop-network in
-    let small : a.edges.0 < 2 ^ 64 = search rules in
-    let none = none_left 64 a.edges.0 l.left.0 _ small l.invariant.within c.lowest-k.ensures c.if-past.true in
-    filled-last Adjacency a.network a.edges.0 l.left.0 l.adjacent none l.invariant
+pub bounds-network-at : goal.bounds-network-at
+bounds-network-at c = came-lt 64 _ _ _ c.in-Some.ensures.steps
+
+pub bounds-network-at-in-loop-k : goal.bounds-network-at-in-loop-k
+bounds-network-at-in-loop-k c = came-lt 64 _ _ _ c.in-Some.ensures.steps
 
 pub link-requires : goal.link-requires
 link-requires c =
-    let ends : let N = c.args.network in
-    let k = c.lowest-k.result in
-    (first_end N k < node_width) × (second_end N k < node_width) =
-    let N = c.args.network in
-    let S = accepted-sound N (search rules) c.requires.0 in
-    let member = passes _ (c.lowest-k.ensures.member c.if-past.false) in
-    ends-fit N S c.lowest-k.result (c.requires.1 _ (c.loop-network.invariant.within _ member)) in
-    ends
+    let N = c.args.accepted.network in
+    let less = less-came 64 _ _ _ c.in-Some.ensures.steps in
+    ends-fit N (accepted-sound N (search rules) c.args.accepted.accepted) _ (c.requires _ (c.loop-k.invariant.2.within _ less.member))
 
-pub loop-network-smaller : goal.loop-network-smaller
-loop-network-smaller c =
-    let less : Less c.loop-network.left.0 c.lowest-k.result c.without_lowest-left.result.0 =
-    let low = c.lowest-k.ensures in
-    less-lowest 64 _ _ _ low c.if-past.false (c.without_lowest-left.ensures _ low) in
-    less-lt _ _ _ (less)
+pub loop-k-preserved : goal.loop-k-preserved
+loop-k-preserved c =
+    let N = c.args.accepted.network in
+    let filled = c.loop-k.invariant.2 in
+    let less = less-came 64 _ _ _ c.in-Some.ensures.steps in
+    let fit = ends-fit N (accepted-sound N (search rules) c.args.accepted.accepted) _ (c.requires _ (filled.within _ less.member)) in (
+      tt,
+      tt,
+      filled_next Adjacency _ _ _ _ _ c.loop-k.adjacent _ _ less filled c.link.ensures (linked-length _ _ _)
+          (adjacency-next _ _ _ _ (rw filled.rows fit.0) (rw filled.rows fit.1) filled.right),
+    )
 
-pub loop-network-preserved : goal.loop-network-preserved
-loop-network-preserved c =
-    let ends : let N = c.args.network in
-    let k = c.lowest-k.result in
-    (first_end N k < node_width) × (second_end N k < node_width) =
-    let N = c.args.network in
-    let S = accepted-sound N (search rules) c.requires.0 in
-    let member = passes _ (c.lowest-k.ensures.member c.if-past.false) in
-    ends-fit N S c.lowest-k.result (c.requires.1 _ (c.loop-network.invariant.within _ member)) in
-    let less : Less c.loop-network.left.0 c.lowest-k.result c.without_lowest-left.result.0 =
-    let low = c.lowest-k.ensures in
-    less-lowest 64 _ _ _ low c.if-past.false (c.without_lowest-left.ensures _ low) in
-    let e = ends in
-    let l = c.loop-network in
-    let rows = l.invariant.rows in
-    filled_next Adjacency _ _ _ l.left.0 _ l.adjacent _ _ (less) l.invariant c.link.ensures (linked-length l.adjacent _ _)
-    (adjacency-next _ _ _ l.adjacent (rw rows e.0) (rw rows e.1) l.invariant.right)
+pub returns : goal.returns
+returns c = filled-last Adjacency _ _ _ _ (none-came 64 _ c.in-None.ensures.steps.0) c.loop-k.invariant.2

@@ -1,11 +1,11 @@
 -- `fill` meets its contract. The invariant: the table is that of the network with the edges that are gone through.
--- The measure is the set of the edges left, as a number. Assumes nothing.
+-- Assumes nothing.
+use Prim.Native.Nat.{◌%◌, ◌^◌}
 use Rattle.adjacency.specs.Adjacency.{Adjacency}
 use Rattle.adjacency.proofs.Filling.{Filled}
 use Rattle.adjacency.proofs.fill.Given as goal
 
-abbrev pub invariant-loop-network : goal.invariant-loop-network
-invariant-loop-network l = Filled Adjacency l.network l.initial.left.0 l.adjacent l.left.0
-
-abbrev pub decreases-loop-network : goal.decreases-loop-network
-decreases-loop-network l = l.left.0
+abbrev pub invariant-loop-k : goal.invariant-loop-k
+invariant-loop-k l =
+    (goal.iterator-loop-k).can_next l.k-iterator × (goal.iterator-loop-k).is_finite l.k-iterator
+    × Filled Adjacency l.network l.fn.edges.0 l.adjacent (l.k-iterator.left % 2 ^ 64)

@@ -7,4 +7,4 @@ use Rattle.capi.proofs.cutlist_fault.Goals as goal
 pub returns : goal.returns
 returns c =
     let N = c.assemble-to_test.ensures in
-    record { value = c.fault.ensures.value ∙ ap fault_of N; means = rw N at c.fault.ensures.means }
+    record { value = c.told-refusal.ensures.0 ∙ c.fault.ensures.value ∙ ap fault_of N; means = rw (c.told-refusal.ensures.0) (rw N at c.fault.ensures.means) }

@@ -5,5 +5,5 @@ use Rattle.capi.proofs.cutlist_list_all.Goals as goal
 
 pub returns : goal.returns
 returns c =
-    let both = rooms-listing c.assemble-with_all.ensures c.list_all-silenced_all.ensures.value c.list_all-silenced_all.ensures.means in
-    record { rooms_listing = both.0; means = both.1 }
+    let both = rooms-listing c.assemble-with_all.ensures c.list_all.ensures.value c.list_all.ensures.means in
+    rw (c.told-refusal.ensures.0, c.told-refusal.ensures.1) (record { rooms_listing = both.0; means = both.1 })

@@ -3,6 +3,7 @@
 use mathlib.Core.Path.{ap, ◌∙◌}
 use Rattle.network.specs.declared.Network.{Network}
 use Rattle.simulation.specs.declared.Simulated.{Simulated}
+use Rattle.simulation.specs.Simulation.{Tallied}
 use Rattle.simulation.specs.Simulation.{simulated_by}
 use Rattle.capi.proofs.cutlist_simulate.Goals as goal
 
@@ -14,9 +15,9 @@ returns c =
     let drilled = call.value ∙ ap (λ (M : Network). simulated_by M a.start a.failure a.repair a.steps) N in
     record {
       drilled = record {
-        refusal = ap (λ (d : Simulated). d.refusal) drilled;
-        silent = ap (λ (d : Simulated). d.silent) drilled;
-        number = ap (λ (d : Simulated). d.number) drilled;
+        refusal = c.told-refusal.ensures.0 ∙ ap (λ (d : Tallied). d.refusal) drilled;
+        silent = ap (λ (g : Simulated). g.silent) c.told-refusal.ensures.1 ∙ ap (λ (d : Tallied). d.silent) drilled;
+        number = ap (λ (g : Simulated). g.number) c.told-refusal.ensures.1 ∙ ap (λ (d : Tallied). d.number) drilled;
       };
-      means = rw N at call.means;
+      means = rw (c.told-refusal.ensures.0, c.told-refusal.ensures.1) (rw N at call.means);
     }

@@ -13,12 +13,12 @@ returns c =
       nodes = refl;
       source = refl;
       edges = refl;
-      first = c.moved-firsts.ensures;
-      second = c.moved-seconds.ensures;
+      first = c.moved-first.ensures;
+      second = c.moved-second.ensures;
       metres = refl;
       stored = record {
-        firsts = c.moved-firsts.ensures.size ∙ was.firsts;
-        seconds = c.moved-seconds.ensures.size ∙ was.seconds;
+        firsts = c.moved-first.ensures.size ∙ was.firsts;
+        seconds = c.moved-second.ensures.size ∙ was.seconds;
         lengths = was.lengths;
         edges = was.edges;
       };

@@ -1,37 +1,36 @@
 use mathlib.Core.Path.{sym, ◌∙◌}
+use Prim.Native.Nat.{◌<◌}
 use borrow.Author.Rules.{rules}
 use denote.Floats.{passes}
-use lib.ListN.{length-set}
-use Rattle.bitset.proofs.Scans.{Less, less-lowest, less-lt, none_left}
+use lib.ListN.{length, length-set}
+use Rattle.bitset.proofs.Going.{came-lt, all-left, less-came, none-came}
 use Rattle.contraction.proofs.Ends.{moving-first, moving-last, moving-stays, moving-goes}
 use Rattle.contraction.proofs.moved.Goals as goal
-use Rattle.contraction.proofs.moved.Goals.{then-lies_at, else-lies_at}
 
-pub loop-nodes-init : goal.loop-nodes-init
-loop-nodes-init c = (moving-first _ _ _ _, search rules)
+pub loop-k-init : goal.loop-k-init
+loop-k-init c =
+    let start = all-left 64 c.into_iter-k-iterator.result.left c.args.edges.0 (search rules) (search rules) in
+    (tt, tt, rw start (moving-first _ _ _ _), search rules)
 
-pub returns-then-k-ge64 : goal.returns-then-k-ge64
-returns-then-k-ge64 c =
-    let none = none_left 64 _ c.loop-nodes.left.0 _ (search rules) c.loop-nodes.invariant.0.within c.lowest-k.ensures c.if-k-ge64.true in
-    moving-last _ _ _ _ c.loop-nodes.invariant.0 none
+pub bounds-ends-at : goal.bounds-ends-at
+bounds-ends-at c = came-lt 64 _ _ _ c.in-Some.ensures.steps
 
-pub loop-nodes-smaller : goal.loop-nodes-smaller
-loop-nodes-smaller c =
-    let less : Less c.loop-nodes.left.0 c.lowest-k.result c.without_lowest-left.result.0 =
-    let low = c.lowest-k in
-    less-lowest 64 _ low.result _ low.ensures (search rules) (c.without_lowest-left.ensures low.result low.ensures) in
-    less-lt _ _ _ (less)
+pub bounds-ends-at-then-lies_at : goal.bounds-ends-at-then-lies_at
+bounds-ends-at-then-lies_at c = came-lt 64 _ _ _ c.in-Some.ensures.steps
 
-pub loop-nodes-preserved : goal.loop-nodes-preserved
-loop-nodes-preserved c =
-    let less : Less c.loop-nodes.left.0 c.lowest-k.result c.without_lowest-left.result.0 =
-    let low = c.lowest-k in
-    less-lowest 64 _ low.result _ low.ensures (search rules) (c.without_lowest-left.ensures low.result low.ensures) in
-    let turn = c.loop-nodes in
-    let asked = c.lies_at.ensures in
-    elim c.if-lies_at.branch [
-      | then-lies_at w ↦
-          let goes = moving-goes _ _ _ _ turn.invariant.0 (less) (search rules) (passes _ (sym asked ∙ w.if-lies_at.true)) in
-          rw w.now-is (goes, simp length-set turn.invariant.1)
-      | else-lies_at w ↦ rw w.now-is (moving-stays _ _ _ _ turn.invariant.0 (less) (λ i. rw (sym asked ∙ w.if-lies_at.false) at i), turn.invariant.1)
-    ]
+pub loop-k-preserved-then-lies_at : goal.loop-k-preserved-then-lies_at
+loop-k-preserved-then-lies_at c =
+    let turn = c.loop-k.invariant in
+    let came = c.in-Some.ensures.steps in
+    let inside : c.in-Some.k < length c.loop-k.ends = rw turn.3 (came-lt 64 _ _ _ came) in
+    let goes = moving-goes _ _ _ _ turn.2 (less-came 64 _ _ _ came) inside (passes _ (sym c.lies_at.ensures ∙ c.if-lies_at.true)) in
+    (tt, tt, goes, simp length-set turn.3)
+
+pub loop-k-preserved : goal.loop-k-preserved
+loop-k-preserved c =
+    let turn = c.loop-k.invariant in
+    let less = less-came 64 _ _ _ c.in-Some.ensures.steps in
+    (tt, tt, moving-stays _ _ _ _ turn.2 less (λ i. rw (sym c.lies_at.ensures ∙ c.if-lies_at.false) at i), turn.3)
+
+pub returns : goal.returns
+returns c = moving-last _ _ _ _ c.loop-k.invariant.2 (none-came 64 _ c.in-None.ensures.steps.0)

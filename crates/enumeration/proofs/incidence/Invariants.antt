@@ -1,11 +1,11 @@
 -- `incidence` meets its contract. The invariant: the table is that of the network with the edges that are gone through.
--- The measure is the set of the edges left, as a number. Assumes nothing.
+-- Assumes nothing.
+use Prim.Native.Nat.{◌%◌, ◌^◌}
 use Rattle.adjacency.proofs.Filling.{Filled}
 use Rattle.enumeration.specs.Tables.{Incidence}
 use Rattle.enumeration.proofs.incidence.Given as goal
 
-abbrev pub invariant-loop-network : goal.invariant-loop-network
-invariant-loop-network l = Filled Incidence l.network l.initial.left.0 l.incident l.left.0
-
-abbrev pub decreases-loop-network : goal.decreases-loop-network
-decreases-loop-network l = l.left.0
+abbrev pub invariant-loop-k : goal.invariant-loop-k
+invariant-loop-k l =
+    (goal.iterator-loop-k).can_next l.k-iterator × (goal.iterator-loop-k).is_finite l.k-iterator
+    × Filled Incidence l.network l.fn.edges.0 l.incident (l.k-iterator.left % 2 ^ 64)

@@ -1,5 +1,5 @@
 -- `total_metres` meets its contract. The invariant: the total so far and that of the members left make the whole, and 65,535 metres for each
--- member left still fit. The measure is the set of members left. Assumes nothing.
+-- member left still fit. Assumes nothing.
 use mathlib.Core.Path.{◌≡◌}
 use Prim.Native.Nat.{ℕ, ◌+◌, ◌*◌, ◌≤◌}
 use lib.ListN.{length}
@@ -13,8 +13,6 @@ pub record Turn (network : Network) (set total left : ℕ) : Type 0 where
   pub whole : total + total_metres network left ≡ total_metres network set
   pub room : total + 65535 * length (members 64 left) ≤ 65535 * 64
 
-abbrev pub invariant-loop-network : goal.invariant-loop-network
-invariant-loop-network l = Turn l.network l.initial.left.0 l.total l.left.0
-
-abbrev pub decreases-loop-network : goal.decreases-loop-network
-decreases-loop-network l = l.left.0
+abbrev pub invariant-loop-k : goal.invariant-loop-k
+invariant-loop-k l =
+    (goal.iterator-loop-k).can_next l.k-iterator × (goal.iterator-loop-k).is_finite l.k-iterator × Turn l.network l.fn.set.0 l.total l.k-iterator.left

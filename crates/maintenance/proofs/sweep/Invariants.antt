@@ -6,7 +6,7 @@ use Rattle.maintenance.proofs.Stretches.{Turn}
 use Rattle.maintenance.proofs.sweep.Given as goal
 
 abbrev pub invariant-loop-minute : goal.invariant-loop-minute
-invariant-loop-minute l = Turn l.network l.openings l.works l.minutes l.minute l.known.out.0 l.known.severs
+invariant-loop-minute l = Turn l.accepted.network l.openings l.works l.minutes l.minute l.known.out.0 l.known.severs
 
 abbrev pub decreases-loop-minute : goal.decreases-loop-minute
 decreases-loop-minute l = left l.openings l.works l.minute

@@ -1,16 +1,10 @@
 use mathlib.Core.Path.{◌≡◌, sym, ◌∙◌}
 use mathlib.Core.Bool.{false}
-use Prim.Native.Nat.{ℕ, ◌^◌}
 use borrow.Author.Tests.{eqb-true, eqb-false}
 use denote.Floats.{passes}
-use Rattle.bitset.specs.Members.{has, ◌∈◌, ◌∖◌}
+use Rattle.bitset.specs.Members.{has}
 use Rattle.bitset.proofs.Sets.{in-drop}
 use Rattle.bitset.proofs.Results.{without-minus, in_without, in-difference, in-intersection}
-use Rattle.network.specs.declared.Network.{Network}
-use Rattle.graph.specs.Reach.{Bounded}
-use Rattle.graph.specs.Relevant.{reach_in}
-use Rattle.spread.specs.Spread.{Reached}
-use Rattle.adjacency.specs.Adjacency.{Adjacency}
 use Rattle.adjacency.proofs.Reaching.{adjacency-mutual, reached-inside}
 use Rattle.parts.proofs.Hanging.{remains-first, remains-next, near-less, part-reached, left-reached, hangs-on, hangs-all}
 use Rattle.parts.proofs.rest_without.Goals as goal
@@ -29,50 +23,29 @@ part_of-part-requires c w m = ((c.loop-near.invariant.beside w).0 m).1
 
 pub returns-then-is_empty : goal.returns-then-is_empty
 returns-then-is_empty c M B table there hangs =
-    let answer : (M : Network)
-    → let a = c.args in
-    Bounded M → Adjacency M a.adjacent.now → a.sink ∈ (a.rest.0 ∖ 2 ^ a.v) → (r : ℕ)
-    → Reached a.adjacent.now c.without-left.result.0 (2 ^ a.sink) r → r ≡ reach_in M (a.rest.0 ∖ 2 ^ a.v) a.sink =
-    λ M B table there r reached. (let a = c.args in
-    reached-inside M B (a.rest.0 ∖ 2 ^ a.v) a.adjacent.now table a.sink r there
-    (rw (without-minus a.rest.0 a.v _ c.without-left.ensures) at reached)) in
-    let l = c.loop-near in
     let a = c.args in
     let split = in_without a.rest.0 a.v _ c.without-left.ensures in
     let was = (in-drop a.rest.0 a.v a.sink).0 there in
-    answer M B table there _
-    (left-reached _ _ _ _ _ _ _ _ l.invariant c.part_of-part.ensures (in-difference _ _ _ c.difference-near.ensures)
+    let reached = left-reached _ _ _ _ _ _ _ _ c.loop-near.invariant c.part_of-part.ensures (in-difference _ _ _ c.difference-near.ensures)
     (adjacency-mutual M a.adjacent.now table) a.rest.0 split (hangs-on M B a.rest.0 a.v a.sink hangs a.adjacent.now table was.0 _ split)
-    ((split a.sink).1 was) (eqb-true _ _ (sym c.is_empty.ensures ∙ c.if-is_empty.true)))
+    ((split a.sink).1 was) (eqb-true _ 0 (sym c.is_empty.ensures ∙ c.if-is_empty.true)) in
+    reached-inside M B _ _ table _ _ there (rw (without-minus a.rest.0 a.v _ c.without-left.ensures) at reached)
 
 pub returns-then-contains : goal.returns-then-contains
 returns-then-contains c M B table there hangs =
-    let answer : (M : Network)
-    → let a = c.args in
-    Bounded M → Adjacency M a.adjacent.now → a.sink ∈ (a.rest.0 ∖ 2 ^ a.v) → (r : ℕ)
-    → Reached a.adjacent.now c.without-left.result.0 (2 ^ a.sink) r → r ≡ reach_in M (a.rest.0 ∖ 2 ^ a.v) a.sink =
-    λ M B table there r reached. (let a = c.args in
-    reached-inside M B (a.rest.0 ∖ 2 ^ a.v) a.adjacent.now table a.sink r there
-    (rw (without-minus a.rest.0 a.v _ c.without-left.ensures) at reached)) in
-    let some : c.difference-near.result.0 ≡ 0 → ⊥ =
-    eqb-false _ _ (sym c.is_empty.ensures ∙ c.if-is_empty.false) in
     let a = c.args in
-    let found = c.contains-in-loop-near in
-    answer M B table there _
-    (part-reached _ _ _ _ _ _ _ _ c.loop-near.invariant c.part_of-part.ensures (in-difference _ _ _ c.difference-near.ensures)
-    (adjacency-mutual M a.adjacent.now table) (some) (passes _ (sym found.ensures ∙ c.if-contains.true)))
+    let some = eqb-false _ 0 (sym c.is_empty.ensures ∙ c.if-is_empty.false) in
+    let reached = part-reached _ _ _ _ _ _ _ _ c.loop-near.invariant c.part_of-part.ensures (in-difference _ _ _ c.difference-near.ensures)
+    (adjacency-mutual M a.adjacent.now table) some (passes _ (sym c.contains-in-loop-near.ensures ∙ c.if-contains.true)) in
+    reached-inside M B _ _ table _ _ there (rw (without-minus a.rest.0 a.v _ c.without-left.ensures) at reached)
 
 pub loop-near-smaller : goal.loop-near-smaller
 loop-near-smaller c =
-    let some : c.difference-near.result.0 ≡ 0 → ⊥ =
-    eqb-false _ _ (sym c.is_empty.ensures ∙ c.if-is_empty.false) in
-    near-less _ _ _ _ _ _ _ _ c.loop-near.invariant c.part_of-part.ensures (in-difference _ _ _ c.difference-near.ensures) (some)
+    near-less _ _ _ _ _ _ _ _ c.loop-near.invariant c.part_of-part.ensures (in-difference _ _ _ c.difference-near.ensures)
+    (eqb-false _ 0 (sym c.is_empty.ensures ∙ c.if-is_empty.false))
 
 pub loop-near-preserved : goal.loop-near-preserved
 loop-near-preserved c =
-    let some : c.difference-near.result.0 ≡ 0 → ⊥ =
-    eqb-false _ _ (sym c.is_empty.ensures ∙ c.if-is_empty.false) in
-    let lost = c.contains-in-loop-near in
-    let off : has _ _ ≡ false = sym lost.ensures ∙ c.if-contains.false in
-    remains-next _ _ _ _ _ _ _ _ c.loop-near.invariant c.part_of-part.ensures (in-difference _ _ _ c.difference-near.ensures) (some)
-    (λ m. rw off at m) _ (in-difference _ _ _ c.difference-left.ensures)
+    let off : has _ _ ≡ false = sym c.contains-in-loop-near.ensures ∙ c.if-contains.false in
+    remains-next _ _ _ _ _ _ _ _ c.loop-near.invariant c.part_of-part.ensures (in-difference _ _ _ c.difference-near.ensures)
+    (eqb-false _ 0 (sym c.is_empty.ensures ∙ c.if-is_empty.false)) (λ m. rw off at m) _ (in-difference _ _ _ c.difference-left.ensures)

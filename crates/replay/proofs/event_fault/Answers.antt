@@ -1,28 +1,26 @@
 -- `event_fault` meets its contract: each return is the rule that its tests have led to.
 -- Assumes nothing.
-use mathlib.Core.Path.{◌≡◌, sym, ◌∙◌}
-use mathlib.Core.Bool.{true}
-use Rattle.network.specs.Record.{◌when◌, ◌then◌}
-use Rattle.replay.specs.Log.{is_command, event_fault}
+use mathlib.Core.Bool.{not}
+use mathlib.Core.Path.{sym, ap, ◌∙◌}
+use Rattle.network.specs.Refusals.{refusal_of}
+use Rattle.network.proofs.Refusals.{passed-on, refused_then, none_then, some-when, none-when}
+use Rattle.replay.specs.Log.{event_fault}
+use Rattle.replay.proofs.Events.{change-fault}
 use Rattle.replay.proofs.event_fault.Goals as goal
 
-pub returns-then-not-is_command : goal.returns-then-not-is_command
-unfolding event_fault ◌when◌ ◌then◌
-returns-then-not-is_command c =
-    let unknown : event_fault c.args.present.0 c.args.command c.args.edge ≡ 16 =
-    rw (sym c.is_command.ensures ∙ c.if-not-is_command.true) in
-    sym unknown
+pub returns-in_err-try_from : goal.returns-in_err-try_from
+unfolding event_fault
+returns-in_err-try_from c =
+    passed-on _ _ c.from_residual.ensures.1 ∙ refused_then _ _ (ap refusal_of c.in_err-try_from.ensures ∙ change-fault c.args.command)
 
 pub returns-then-not-contains : goal.returns-then-not-contains
-unfolding event_fault ◌when◌ ◌then◌
+unfolding event_fault
 returns-then-not-contains c =
-    let known : is_command c.args.command ≡ true =
-    sym c.is_command.ensures ∙ c.if-not-is_command.false in
-    rw (known, sym c.contains.ensures ∙ c.if-not-contains.true)
+    sym (none_then _ (sym (ap refusal_of c.in_ok-try_from.ensures ∙ change-fault c.args.command))
+    ∙ some-when 17 (ap not (sym c.if-not-contains.ensures)))
 
 pub returns : goal.returns
-unfolding event_fault ◌when◌ ◌then◌
+unfolding event_fault
 returns c =
-    let known : is_command c.args.command ≡ true =
-    sym c.is_command.ensures ∙ c.if-not-is_command.false in
-    rw (known, sym c.contains.ensures ∙ c.if-not-contains.false)
+    sym (none_then _ (sym (ap refusal_of c.in_ok-try_from.ensures ∙ change-fault c.args.command))
+    ∙ none-when 17 (ap not (sym c.if-not-contains.ensures)))

@@ -4,7 +4,7 @@ use native.Mathlib.Omega.{arith}
 use borrow.Author.Rules.{rules}
 use borrow.Author.Tests.{eqb-true, eqb-false}
 use Rattle.node_set.specs.Width.{node_width}
-use Rattle.spread.proofs.Rounds.{Finds, finds, spread-first, spread-next, spread-larger, spread-last}
+use Rattle.spread.proofs.Rounds.{finds, spread-first, spread-next, spread-larger, spread-last}
 use Rattle.spread.proofs.reach.Goals as goal
 
 pub loop-within-init : goal.loop-within-init
@@ -12,45 +12,25 @@ loop-within-init c = record { word = search rules; inside = spread-first _ _ _ }
 
 pub loop-within-smaller : goal.loop-within-smaller
 loop-within-smaller c =
-    let new : let l = c.loop-within in
-    let a = c.args in
-    Finds a.adjacent.now a.within.0 l.spread.0 l.fresh.0 c.difference-found.result.0 =
-    let a = c.args in
-    let beside = c.adjacent_to-beside in
-    let inside = c.intersection-inside in
-    finds a.adjacent.now _ _ _ beside.result.0 inside.result.0 _ beside.ensures inside.ensures c.difference-found.ensures in
     let l = c.loop-within in
     let next = c.union-spread.result.0 in
+    let new = finds _ _ l.spread.0 l.fresh.0 _ _ _ c.adjacent_to-beside.ensures c.intersection-inside.ensures c.difference-found.ensures in
     let larger : l.spread.0 < next =
-    spread-larger _ _ _ l.spread.0 l.fresh.0 c.difference-found.result.0 l.invariant.inside (new) next c.union-spread.ensures
-    (eqb-false _ _ (sym c.is_empty.ensures ∙ c.if-is_empty.false)) in
+    spread-larger _ _ _ _ _ _ l.invariant.inside new next c.union-spread.ensures (eqb-false _ _ (sym c.is_empty.ensures ∙ c.if-is_empty.false)) in
     let small : next < 2 ^ node_width = search rules in
     omega (arith, larger, small)
 
 pub loop-within-preserved : goal.loop-within-preserved
 loop-within-preserved c =
-    let new : let l = c.loop-within in
-    let a = c.args in
-    Finds a.adjacent.now a.within.0 l.spread.0 l.fresh.0 c.difference-found.result.0 =
-    let a = c.args in
-    let beside = c.adjacent_to-beside in
-    let inside = c.intersection-inside in
-    finds a.adjacent.now _ _ _ beside.result.0 inside.result.0 _ beside.ensures inside.ensures c.difference-found.ensures in
     let l = c.loop-within in
+    let new = finds _ _ l.spread.0 l.fresh.0 _ _ _ c.adjacent_to-beside.ensures c.intersection-inside.ensures c.difference-found.ensures in
     record {
       word = search rules;
-      inside = spread-next _ _ _ l.spread.0 l.fresh.0 c.difference-found.result.0 l.invariant.inside (new) _ c.union-spread.ensures;
+      inside = spread-next _ _ _ _ _ _ l.invariant.inside new _ c.union-spread.ensures;
     }
 
 pub returns : goal.returns
 returns c =
-    let new : let l = c.loop-within in
-    let a = c.args in
-    Finds a.adjacent.now a.within.0 l.spread.0 l.fresh.0 c.difference-found.result.0 =
-    let a = c.args in
-    let beside = c.adjacent_to-beside in
-    let inside = c.intersection-inside in
-    finds a.adjacent.now _ _ _ beside.result.0 inside.result.0 _ beside.ensures inside.ensures c.difference-found.ensures in
     let l = c.loop-within in
-    spread-last _ _ _ l.spread.0 l.fresh.0 c.difference-found.result.0 l.invariant.inside (new)
-    (eqb-true _ _ (sym c.is_empty.ensures ∙ c.if-is_empty.true))
+    let new = finds _ _ l.spread.0 l.fresh.0 _ _ _ c.adjacent_to-beside.ensures c.intersection-inside.ensures c.difference-found.ensures in
+    spread-last _ _ _ _ _ _ l.invariant.inside new (eqb-true _ _ (sym c.is_empty.ensures ∙ c.if-is_empty.true))

@@ -1,18 +1,19 @@
 -- `put_list` meets its contract: no list is longer than the page.
 -- Assumes nothing.
-use native.Mathlib.Nat.{le_trans}
-use Rattle.text.proofs.Bound.{word_bound}
-use Rattle.text.proofs.Lists.{room-rows, list-printed}
+use mathlib.Core.Path.{refl}
 use borrow.Author.Rules.{rules}
+use Rattle.text.proofs.Written.{room-rest, appended-text}
+use Rattle.text.proofs.Bound.{room-word}
+use Rattle.text.proofs.Lists.{room-list, list-printed}
 use Rattle.text.proofs.put_list.Goals as goal
 
-pub write_word-count_end-requires : goal.write_word-count_end-requires
-write_word-count_end-requires c = le_trans (word_bound _ _ (search rules) (search rules)) (search rules)
+pub word_line-requires : goal.word_line-requires
+word_line-requires c = room-word _ _ (search rules) (search rules) (search rules)
 
-pub write_rows-requires : goal.write_rows-requires
-write_rows-requires c = (search rules, search rules, room-rows (search rules) c.write_word-count_end.ensures _ _ (search rules))
+pub rows-requires : goal.rows-requires
+rows-requires c =
+    room-rest (room-list _ _ _ _ c.min-rows.ensures (search rules) (search rules) (search rules)) c.word_line.ensures
 
 pub returns : goal.returns
 returns c =
-    let count = c.rows_up_to-rows in
-    list-printed (search rules) c.write_word-count_end.ensures _ _ _ count.ensures (search rules) (search rules) c.write_rows.ensures
+    list-printed _ _ _ _ c.min-rows.ensures (search rules) (search rules) refl (search rules) (appended-text c.word_line.ensures c.rows.ensures)

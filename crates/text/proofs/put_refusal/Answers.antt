@@ -1,13 +1,13 @@
 -- `put_refusal` meets its contract: the line of the word refused and a number is far shorter than the page.
 -- Assumes nothing.
-use native.Mathlib.Nat.{le_trans}
+use mathlib.Core.Path.{refl}
 use borrow.Author.Rules.{rules}
-use Rattle.text.proofs.Written.{wrote-printed}
-use Rattle.text.proofs.Bound.{word_bound}
+use Rattle.text.proofs.Written.{appended-printed}
+use Rattle.text.proofs.Bound.{room-word}
 use Rattle.text.proofs.put_refusal.Goals as goal
 
-pub write_word-requires : goal.write_word-requires
-write_word-requires c = le_trans (word_bound _ _ (search rules) (search rules)) (search rules)
+pub word_line-requires : goal.word_line-requires
+word_line-requires c = room-word _ _ (search rules) (search rules) (search rules)
 
 pub returns : goal.returns
-returns c = wrote-printed (le_trans (word_bound _ _ (search rules) (search rules)) (search rules)) c.write_word.ensures
+returns c = appended-printed refl (room-word _ _ (search rules) (search rules) (search rules)) c.word_line.ensures

@@ -1,37 +1,29 @@
 use mathlib.Core.Path.{refl, sym, ◌∙◌}
 use borrow.Author.Rules.{rules}
-use denote.Floats.{passes}
-use Rattle.bitset.proofs.Scans.{Less, less-lowest, less-lt, none_left, done_first, done_next}
+use Rattle.bitset.proofs.Going.{came-lt, all-left, less-came, none-came}
+use Rattle.bitset.proofs.Scans.{done_first, done_next}
 use Rattle.network.specs.Record.{present}
 use Rattle.trimmed.proofs.loopless.Goals as goal
 
-pub loop-network-init : goal.loop-network-init
-loop-network-init c = done_first _ _
+pub loop-k-init : goal.loop-k-init
+loop-k-init c =
+    (tt, tt, rw (all-left 64 c.into_iter-k-iterator.result.left (present c.args.network) (search rules) (search rules)) (done_first _ _))
 
-pub returns-then-k-ge64 : goal.returns-then-k-ge64
-returns-then-k-ge64 c =
-    let N = c.args.network in
-    let l = c.loop-network in
-    let none = none_left 64 (present N) l.left.0 _ (search rules) l.invariant.within c.lowest-k.ensures c.if-k-ge64.true in
-    (λ t k v p. l.invariant.done k p.0 (none k) (p.1 ∙ sym p.2), λ p. tt)
+pub bounds-network-at : goal.bounds-network-at
+bounds-network-at c = came-lt 64 _ _ _ c.in-Some.ensures.steps
+
+pub bounds-network-at-in-loop-k : goal.bounds-network-at-in-loop-k
+bounds-network-at-in-loop-k c = came-lt 64 _ _ _ c.in-Some.ensures.steps
 
 pub returns-then-network-at : goal.returns-then-network-at
 returns-then-network-at c =
-    let low = c.lowest-k in
-    let there = c.loop-network.invariant.within low.result (passes _ (low.ensures.member (search rules))) in
-    (absurd, λ p. p low.result _ (there, c.if-network-at.true, refl))
+    let less = less-came 64 _ _ _ c.in-Some.ensures.steps in
+    (absurd, λ p. p _ _ (c.loop-k.invariant.2.within _ less.member, c.if-network-at.true, refl))
 
-pub loop-network-smaller : goal.loop-network-smaller
-loop-network-smaller c =
-    let less : Less c.loop-network.left.0 c.lowest-k.result c.without_lowest-left.result.0 =
-    let low = c.lowest-k in
-    less-lowest 64 _ low.result _ low.ensures (search rules) (c.without_lowest-left.ensures low.result low.ensures) in
-    less-lt _ _ _ (less)
+pub loop-k-preserved : goal.loop-k-preserved
+loop-k-preserved c = (tt, tt, done_next _ _ _ _ _ (less-came 64 _ _ _ c.in-Some.ensures.steps) c.if-network-at.false c.loop-k.invariant.2)
 
-pub loop-network-preserved : goal.loop-network-preserved
-loop-network-preserved c =
-    let less : Less c.loop-network.left.0 c.lowest-k.result c.without_lowest-left.result.0 =
-    let low = c.lowest-k in
-    less-lowest 64 _ low.result _ low.ensures (search rules) (c.without_lowest-left.ensures low.result low.ensures) in
-    let N = c.args.network in
-    done_next _ (present N) _ c.lowest-k.result _ (less) c.if-network-at.false c.loop-network.invariant
+pub returns : goal.returns
+returns c =
+    let none = none-came 64 _ c.in-None.ensures.steps.0 in
+    (λ t k v p. c.loop-k.invariant.2.done k p.0 (none k) (p.1 ∙ sym p.2), λ p. tt)

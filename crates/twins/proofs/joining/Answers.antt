@@ -1,36 +1,30 @@
 use borrow.Author.Rules.{rules}
 use Rattle.bitset.proofs.Results.{in_without}
-use Rattle.bitset.proofs.Scans.{Less, less-lowest, less-lt, none_left, sifted-first, sifted-stays, sifted-goes, sifted-last}
+use Rattle.bitset.proofs.Scans.{sifted-first, sifted-stays, sifted-goes, sifted-last}
+use Rattle.bitset.proofs.Going.{came-lt, all-left, less-came, none-came}
 use Rattle.twins.proofs.joining.Goals as goal
-use Rattle.twins.proofs.joining.Goals.{then-pairs-j, else-pairs-j}
 
-pub loop-left-init : goal.loop-left-init
-loop-left-init c = sifted-first _ _ _
+pub loop-j-init : goal.loop-j-init
+loop-j-init c = (tt, tt, rw (all-left 64 c.into_iter-j-iterator.result.left c.args.edges.0 (search rules) (search rules)) (sifted-first _ _ _))
 
-pub returns-then-j-ge64 : goal.returns-then-j-ge64
-returns-then-j-ge64 c =
-    let edges = c.args.edges.0 in
-    let l = c.loop-left in
-    let none = none_left 64 edges l.left.0 _ (search rules) l.invariant.within c.lowest-j.ensures c.if-j-ge64.true in
-    λ j. let held = sifted-last _ edges edges l.left.0 l.joins.0 none l.invariant j in
+pub bounds-pairs-j : goal.bounds-pairs-j
+bounds-pairs-j c = came-lt 64 _ _ _ c.in-Some.ensures.steps
+
+pub loop-j-preserved-then-pairs-j : goal.loop-j-preserved-then-pairs-j
+loop-j-preserved-then-pairs-j c =
+    let l = c.loop-j in
+    let less = less-came 64 _ _ _ c.in-Some.ensures.steps in
+    (tt, tt, sifted-goes _ _ _ _ _ _ _ _ less c.if-pairs-j.true (in_without _ _ _ c.without-joins.ensures) l.invariant.2)
+
+pub loop-j-preserved : goal.loop-j-preserved
+loop-j-preserved c =
+    let l = c.loop-j in
+    let less = less-came 64 _ _ _ c.in-Some.ensures.steps in
+    (tt, tt, sifted-stays _ _ _ _ _ _ _ less c.if-pairs-j.false l.invariant.2)
+
+pub returns : goal.returns
+returns c =
+    let l = c.loop-j in
+    let none = none-came 64 _ c.in-None.ensures.steps.0 in
+    λ j. let held = sifted-last _ _ _ _ _ none l.invariant.2 j in
     (λ m. let p = held.0 m in (p.0, p.1 p.0), λ p. held.1 (p.0, λ i. p.1))
-
-pub loop-left-smaller : goal.loop-left-smaller
-loop-left-smaller c =
-    let less : Less c.loop-left.left.0 c.lowest-j.result c.without_lowest-left.result.0 =
-    let low = c.lowest-j in
-    less-lowest 64 _ low.result _ low.ensures (search rules) (c.without_lowest-left.ensures low.result low.ensures) in
-    less-lt _ _ _ (less)
-
-pub loop-left-preserved : goal.loop-left-preserved
-loop-left-preserved c =
-    let less : Less c.loop-left.left.0 c.lowest-j.result c.without_lowest-left.result.0 =
-    let low = c.lowest-j in
-    less-lowest 64 _ low.result _ low.ensures (search rules) (c.without_lowest-left.ensures low.result low.ensures) in
-    let l = c.loop-left in
-    elim c.if-pairs-j.branch [
-      | then-pairs-j w ↦
-          rw w.joins-is
-          (sifted-goes _ _ _ l.left.0 _ _ l.joins.0 _ (less) w.if-pairs-j.true (in_without _ _ _ w.without-joins.ensures) l.invariant)
-      | else-pairs-j w ↦ rw w.joins-is (sifted-stays _ _ _ l.left.0 _ _ l.joins.0 (less) w.if-pairs-j.false l.invariant)
-    ]

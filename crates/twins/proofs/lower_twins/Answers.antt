@@ -2,44 +2,45 @@ use mathlib.Core.Path.{refl, ◌∙◌}
 use borrow.Author.Rules.{rules}
 use lib.ListN.{length-set}
 use Rattle.bitset.proofs.Results.{in-intersection}
-use Rattle.bitset.proofs.Scans.{Less, less-lowest, less-lt, none_left, done_first}
+use Rattle.bitset.proofs.Scans.{done_first}
+use Rattle.bitset.proofs.Going.{came-lt, all-left, less-came, none-came}
 use Rattle.network.specs.Record.{present}
 use Rattle.twins.proofs.Twins.{row-twins, rows_next, rows_all}
 use Rattle.twins.proofs.lower_twins.Goals as goal
 
-pub pairs-pairs-requires : goal.pairs-pairs-requires
-pairs-pairs-requires c = c.requires
+pub loop-k-init : goal.loop-k-init
+loop-k-init c =
+    let start = all-left 64 c.into_iter-k-iterator.result.left c.args.accepted.network.present.0 (search rules) (search rules) in
+    (tt, tt, rw start (record { size = refl; filled = done_first _ _ }))
 
-pub loop-present-init : goal.loop-present-init
-loop-present-init c = record { size = refl; filled = done_first _ _ }
+pub bounds-pairs-at : goal.bounds-pairs-at
+bounds-pairs-at c = came-lt 64 _ _ _ c.in-Some.ensures.steps
 
-pub returns-then-k-ge64 : goal.returns-then-k-ge64
-returns-then-k-ge64 c =
-    let l = c.loop-present in
-    let N = c.args.network in
-    rows_all N c.pairs-pairs.result l.lower l.left.0 (search rules) c.pairs-pairs.ensures
-    (none_left 64 _ l.left.0 _ (search rules) l.invariant.filled.within c.lowest-k.ensures c.if-k-ge64.true) l.invariant.filled
+pub bounds-lower-at : goal.bounds-lower-at
+bounds-lower-at c = came-lt 64 _ _ _ c.in-Some.ensures.steps
 
-pub loop-present-smaller : goal.loop-present-smaller
-loop-present-smaller c =
-    let less : Less c.loop-present.left.0 c.lowest-k.result c.without_lowest-left.result.0 =
-    let low = c.lowest-k in
-    less-lowest 64 _ low.result _ low.ensures (search rules) (c.without_lowest-left.ensures low.result low.ensures) in
-    less-lt _ _ _ (less)
+pub loop-k-preserved : goal.loop-k-preserved
+loop-k-preserved c =
+    let l = c.loop-k in
+    let k = c.in-Some.k in
+    let turn = l.invariant.2 in
+    let came = c.in-Some.ensures.steps in
+    let h = came-lt 64 _ _ _ came in
+    let edges = present c.args.accepted.network in
+    let pairs = c.pairs-pairs.result in (
+      tt,
+      tt,
+      record {
+        size = length-set l.lower k _ ∙ turn.size;
+        filled =
+            rows_next edges pairs l.lower _ k _ _ (rw turn.size h) (less-came 64 _ _ _ came)
+            (row-twins edges pairs k _ _ _ h c.below.ensures (in-intersection _ _ _ c.intersection.ensures) c.joining-twins.ensures)
+            turn.filled;
+      },
+    )
 
-pub loop-present-preserved : goal.loop-present-preserved
-loop-present-preserved c =
-    let less : Less c.loop-present.left.0 c.lowest-k.result c.without_lowest-left.result.0 =
-    let low = c.lowest-k in
-    less-lowest 64 _ low.result _ low.ensures (search rules) (c.without_lowest-left.ensures low.result low.ensures) in
-    let l = c.loop-present in
-    let k = c.lowest-k.result in
-    let edges = present c.args.network in
-    let pairs = c.pairs-pairs.result in
-    record {
-      size = length-set l.lower k _ ∙ l.invariant.size;
-      filled =
-          rows_next edges pairs l.lower l.left.0 k _ _ (rw l.invariant.size (search rules)) (less)
-          (row-twins edges pairs k _ _ _ (search rules) c.below.ensures (in-intersection _ _ _ c.intersection.ensures) c.joining-twins.ensures)
-          l.invariant.filled;
-    }
+pub returns : goal.returns
+returns c =
+    let l = c.loop-k in
+    rows_all c.args.accepted.network c.pairs-pairs.result l.lower _ (search rules) c.pairs-pairs.ensures
+    (none-came 64 _ c.in-None.ensures.steps.0) l.invariant.2.filled

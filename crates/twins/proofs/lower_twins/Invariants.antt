@@ -1,8 +1,7 @@
--- `lower_twins` meets its contract. The invariant: the rows of the edges gone through are filled.
--- The measure is the set of edges left. Assumes nothing.
+-- `lower_twins` meets its contract. The invariant: the rows of the edges gone through are filled. Assumes nothing.
 use mathlib.Core.List.{List}
 use mathlib.Core.Path.{◌≡◌}
-use Prim.Native.Nat.{ℕ}
+use Prim.Native.Nat.{ℕ, ◌%◌, ◌^◌}
 use lib.ListN.{length, get_or}
 use Rattle.bitset.proofs.Scans.{Done}
 use Rattle.twins.proofs.Twins.{RowTwins}
@@ -13,8 +12,7 @@ pub record Turn (edges : ℕ) (pairs lower : List ℕ) (left : ℕ) : Type 0 whe
   pub size : length lower ≡ 64
   pub filled : Done (λ e. RowTwins edges pairs e (get_or lower e 0)) edges left
 
-abbrev pub invariant-loop-present : goal.invariant-loop-present
-invariant-loop-present l = Turn l.present.0 l.pairs l.lower l.left.0
-
-abbrev pub decreases-loop-present : goal.decreases-loop-present
-decreases-loop-present l = l.left.0
+abbrev pub invariant-loop-k : goal.invariant-loop-k
+invariant-loop-k l =
+    (goal.iterator-loop-k).can_next l.k-iterator × (goal.iterator-loop-k).is_finite l.k-iterator
+    × Turn l.present.0 l.pairs l.lower (l.k-iterator.left % 2 ^ 64)

@@ -1,12 +1,7 @@
 -- `part::past` meets its contract: the spread is over the table without c, from the terminals that are not c.
 -- Assumes nothing.
-use Prim.Native.Nat.{◌-◌, ◌^◌}
 use native.Mathlib.Omega.{arith}
-use Rattle.bitset.specs.Members.{◌∖◌}
-use Rattle.graph.specs.Cuts.{only}
-use Rattle.graph.specs.Relevant.{edges_within}
-use Rattle.graph.proofs.Sound.{Sound, accepted-sound}
-use Rattle.adjacency.specs.Adjacency.{Adjacency}
+use Rattle.graph.proofs.Sound.{accepted-sound}
 use Rattle.adjacency.proofs.Reaching.{adjacency-mutual, adjacency-without}
 use Rattle.connectivity.proofs.Nodes.{past-made}
 use borrow.Author.Rules.{rules}
@@ -14,23 +9,17 @@ use Rattle.connectivity.proofs.part.past.Goals as goal
 
 pub leave_out-requires : goal.leave_out-requires
 leave_out-requires c =
-    let sound : Sound c.args.network =
-    accepted-sound c.args.network (search rules) c.requires.0 in
-    (omega (arith, c.requires.1, (sound).small), adjacency-mutual c.args.network c.args.adjacent.now c.requires.2)
+    let N = c.args.accepted.network in
+    let S = accepted-sound N (search rules) c.args.accepted.accepted in
+    (omega (arith, c.requires.0, S.small), adjacency-mutual N c.args.adjacent.now c.requires.1)
 
 pub returns : goal.returns
 returns c =
-    let sound : Sound c.args.network =
-    accepted-sound c.args.network (search rules) c.requires.0 in
-    let others : let a = c.args in
-    let N = a.network in
-    Adjacency (only N (edges_within N ((2 ^ N.nodes - 1) ∖ 2 ^ a.c))) c.leave_out.new.others =
     let a = c.args in
-    adjacency-without a.network (sound).bounded a.adjacent.now c.requires.2 a.c c.leave_out.new.others c.leave_out.ensures in
-    let a = c.args in
-    let N = a.network in
-    past-made N (sound) a.c c.requires.1 c.leave_out.new.others _ _ _ _ _ _
-    (others)
+    let N = a.accepted.network in
+    let S = accepted-sound N (search rules) a.accepted.accepted in
+    past-made N S a.c c.requires.0 c.leave_out.new.others _ _ _ _ _ _
+    (adjacency-without N S.bounded a.adjacent.now c.requires.1 a.c c.leave_out.new.others c.leave_out.ensures)
     c.below-all.ensures
     c.single-source.ensures
     c.with-terminals.ensures

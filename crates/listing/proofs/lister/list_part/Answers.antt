@@ -7,16 +7,16 @@ use Rattle.listing.proofs.Call.{answered-unpaired, answered-unfilled, answered-c
 use Rattle.listing.proofs.lister.list_part.Goals as goal
 
 pub returns-then-differ : goal.returns-then-differ
-returns-then-differ c = answered-unpaired _ _ _ c.requires.0 (λ e. omega (arith, c.if-differ.true))
+returns-then-differ c = answered-unpaired _ _ _ c.args.part.accepted.accepted (λ e. omega (arith, c.if-differ.true))
 
 pub returns-then-too_many : goal.returns-then-too_many
 returns-then-too_many c =
-    let stored : Stored c.args.network =
-    search rules in
-    answered-unfilled _ _ _ (stored) c.requires.0 c.if-differ.false c.fill-count.ensures c.if-too_many.true
+    let accepted = c.args.part.accepted in
+    let stored : Stored accepted.network = search rules in
+    answered-unfilled _ _ _ stored accepted.accepted c.if-differ.false c.fill-count.ensures c.if-too_many.true
 
 pub returns : goal.returns
 returns c =
-    let stored : Stored c.args.network =
-    search rules in
-    answered-complete _ _ _ (stored) c.requires.0 c.if-differ.false c.fill-count.ensures c.if-too_many.false _ _ c.sort_rows.ensures
+    let accepted = c.args.part.accepted in
+    let stored : Stored accepted.network = search rules in
+    answered-complete _ _ _ stored accepted.accepted c.if-differ.false c.fill-count.ensures c.if-too_many.false _ _ c.sort_rows.ensures

@@ -1,45 +1,43 @@
-use mathlib.Core.Path.{◌≡◌, sym, ap, ◌∙◌}
-use Prim.Native.Nat.{◌-◌}
-use native.Mathlib.Omega.{arith}
+use mathlib.Core.Path.{◌≡◌, refl, sym, ap, ◌∙◌}
+use mathlib.Core.Bool.{Bool}
+use borrow.Author.Rules.{rules}
+use Prim.Native.Nat.{ℕ, ◌-◌}
 use native.Mathlib.Numerals.{add-one}
 use Rattle.sequences.specs.Words.{range}
-use Rattle.network.specs.Record.{slot_fault_of, slot_fault, slots_fault, first_end, second_end, metres_of}
+use Rattle.bitset.specs.Members.{has}
+use Rattle.network.specs.declared.Network.{Network}
+use Rattle.network.specs.Record.{present, slot_fault_of, slot_fault, slots_fault, first_end, second_end, metres_of}
 use Rattle.network.proofs.Slots.{slots-step}
-use Rattle.network.proofs.Refusals.{none_then, some_then}
+use Rattle.network.proofs.Refusals.{none_then, refused_then, passed-on}
 use Rattle.network.proofs.faults.slots_fault.Goals as goal
 
-pub returns-then-fault-ne0 : goal.returns-then-fault-ne0
+pub loop-k-init : goal.loop-k-init
+loop-k-init c = refl
+
+-- The fault of the slot that is tested is that of the record's slot.
+tested : (N : Network) (k : ℕ) {r : ℕ} {p : Bool} → r ≡ slot_fault_of N.nodes (p, first_end N k, second_end N k, metres_of N k)
+    → p ≡ has (present N) k → r ≡ slot_fault N k
 unfolding slot_fault
-returns-then-fault-ne0 c =
-    let here : c.slot_fault-fault.result ≡ slot_fault c.args.network c.loop-k.k =
+tested N k fault present = fault ∙ ap (λ p. slot_fault_of N.nodes (p, first_end N k, second_end N k, metres_of N k)) present
+
+pub returns-in_err-slot_fault : goal.returns-in_err-slot_fault
+returns-in_err-slot_fault c =
     let N = c.args.network in
     let k = c.loop-k.k in
-    c.slot_fault-fault.ensures
-    ∙ ap (λ p. slot_fault_of N.nodes (p, first_end N k, second_end N k, metres_of N k)) c.contains.ensures in
-    let l = c.loop-k in
-    let step = slots-step c.args.network l.k c.loop-k-test.true in
-    here ∙ sym (step ∙ some_then _ _ (omega (arith, here))) ∙ l.invariant.same
+    passed-on _ _ c.from_residual.ensures.1
+    ∙ refused_then _ _ (tested N k c.in_err-slot_fault.ensures c.contains.ensures)
+    ∙ sym (slots-step N k c.loop-k-test.true) ∙ c.loop-k.invariant
 
 pub loop-k-preserved : goal.loop-k-preserved
-unfolding slot_fault
 loop-k-preserved c =
-    let here : c.slot_fault-fault.result ≡ slot_fault c.args.network c.loop-k.k =
     let N = c.args.network in
     let k = c.loop-k.k in
-    c.slot_fault-fault.ensures
-    ∙ ap (λ p. slot_fault_of N.nodes (p, first_end N k, second_end N k, metres_of N k)) c.contains.ensures in
-    let N = c.args.network in
-    let l = c.loop-k in
-    let step = slots-step N l.k c.loop-k-test.true in
-    let none : slot_fault N l.k ≡ 0 = sym (here) ∙ c.if-fault-ne0.false in
-    record {
-      slot = omega arith;
-      same = ap (λ j. slots_fault N j (64 - j)) (add-one l.k) ∙ sym (step ∙ none_then _ none) ∙ l.invariant.same;
-    }
+    let none : slot_fault N k ≡ 0 = sym (tested N k c.in_ok-slot_fault.ensures c.contains.ensures) in
+    ap (λ j. slots_fault N j (64 - j)) (add-one k) ∙ sym (slots-step N k c.loop-k-test.true ∙ none_then _ none) ∙ c.loop-k.invariant
 
 pub returns : goal.returns
 unfolding slots_fault range
 returns c =
     let l = c.loop-k in
-    let all : l.k ≡ 64 = omega arith in
-    ap (λ j. slots_fault c.args.network j (64 - j)) (sym all) ∙ l.invariant.same
+    let all : l.k ≡ 64 = search rules in
+    ap (λ j. slots_fault c.args.network j (64 - j)) (sym all) ∙ l.invariant

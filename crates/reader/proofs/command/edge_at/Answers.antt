@@ -1,34 +1,47 @@
--- `command::edge_at` meets its contract: each way through it is a law of the step at an offset.
+-- `command::edge_at` meets its contract: the end, alone or not; else the operands are refused, or their values, or they are the answer.
 -- Assumes nothing.
 use mathlib.Core.Path.{sym, ◌∙◌}
 use native.Mathlib.Omega.{arith}
-use Rattle.reader.proofs.Offsets.{refused, edge-nothing, end-trailing, end-alone, edge-another, edge-missing, edge-values}
+use Rattle.network.specs.Record.{◌then◌, end_fault}
+use Rattle.format.specs.Format.{Outcome, number_fault, edge_refusal}
+use Rattle.reader.proofs.Operands.{step-refused, step-taken, operands-refused, operands-read, end-trailing, end-alone, edge-other}
 use Rattle.reader.proofs.command.edge_at.Goals as goal
-
-pub returns-then-plan-at : goal.returns-then-plan-at
-returns-then-plan-at c = edge-nothing _ _ _ _ c.if-plan-at.true
 
 pub returns-then-trailing : goal.returns-then-trailing
 returns-then-trailing c =
-    let a = c.args in
-    end-trailing a.plan.now a.at a.nodes a.next c.if-command-eq-END.true (omega (arith, c.if-trailing.true))
+    end-trailing _ _ _ c.if-starts_with.ensures.value (omega (arith, c.if-trailing.true))
 
-pub returns-then-command-eq-END : goal.returns-then-command-eq-END
-returns-then-command-eq-END c =
-    let a = c.args in
-    end-alone a.plan.now a.at a.nodes a.next c.if-command-eq-END.true c.if-trailing.false
+pub returns-then-starts_with : goal.returns-then-starts_with
+returns-then-starts_with c =
+    end-alone _ _ _ c.if-starts_with.ensures.value c.if-trailing.false
 
-pub returns-then-command-ne-EDGE : goal.returns-then-command-ne-EDGE
-returns-then-command-ne-EDGE c = edge-another _ _ _ _ c.if-plan-at.false c.if-command-eq-END.false c.if-command-ne-EDGE.true
+pub returns-in_err-edge : goal.returns-in_err-edge
+unfolding edge_refusal
+returns-in_err-edge c =
+    step-refused _ _ _ c.from_residual.ensures.1 (operands-refused 0x43 4 _ _ _ c.in_err-edge.ensures.refusal (omega arith))
+    ∙ edge-other _ _ _ c.if-starts_with.ensures.value
 
-pub returns-then-short : goal.returns-then-short
-returns-then-short c = edge-missing _ _ _ _ c.if-plan-at.false c.if-command-ne-EDGE.false (omega (arith, c.if-short.true))
-
-pub returns-then-fault-ne0 : goal.returns-then-fault-ne0
-returns-then-fault-ne0 c = refused _ _ c.if-fault-ne0.true
-    ∙ edge-values _ _ _ _ _ c.if-plan-at.false c.if-command-ne-EDGE.false c.if-short.false c.edge_fault-fault.ensures
+pub returns-in_err-edge_fault : goal.returns-in_err-edge_fault
+unfolding edge_refusal
+returns-in_err-edge_fault c =
+    let read = c.in_ok-edge.ensures in
+    let e = read.values 0 (omega arith) in
+    let f = read.values 1 (omega arith) in
+    let g = read.values 2 (omega arith) in
+    step-refused _ _ _ c.from_residual-in_err-edge_fault.ensures.1
+    (c.in_err-edge_fault.ensures ∙ (λ i. number_fault c.args.next (e i) then end_fault c.args.nodes (f i) (g i))
+    ∙ sym (operands-read 0x43 4 _ _ read.refusal))
+    ∙ edge-other _ _ _ c.if-starts_with.ensures.value
 
 pub returns : goal.returns
+unfolding edge_refusal
 returns c =
-    let none = sym c.if-fault-ne0.false ∙ c.edge_fault-fault.ensures in
-    edge-values _ _ _ _ 0 c.if-plan-at.false c.if-command-ne-EDGE.false c.if-short.false none
+    let read = c.in_ok-edge.ensures in
+    let e = read.values 0 (omega arith) in
+    let f = read.values 1 (omega arith) in
+    let g = read.values 2 (omega arith) in
+    step-taken
+    (operands-read 0x43 4 _ _ read.refusal
+    ∙ sym (c.in_ok-edge_fault.ensures ∙ (λ i. number_fault c.args.next (e i) then end_fault c.args.nodes (f i) (g i))))
+    (λ i. Outcome.Edge (e i) (f i) (g i))
+    ∙ edge-other _ _ _ c.if-starts_with.ensures.value

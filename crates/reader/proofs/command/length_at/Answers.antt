@@ -1,29 +1,42 @@
--- `command::length_at` meets its contract: each way through it is a law of the step at an offset. Assumes nothing.
-use mathlib.Core.Path.{sym, ◌∙◌}
+-- `command::length_at` meets its contract: no length; else the operands are refused, or their values, or they are the answer.
+-- Assumes nothing.
+use mathlib.Core.Path.{sym, ap, ap₂, ◌∙◌}
+use Prim.Native.Nat.{◌+◌, ◌*◌}
 use native.Mathlib.Omega.{arith}
-use Rattle.reader.proofs.Offsets.{refused, length-nothing, length-another, length-missing, length-values}
+use Rattle.format.specs.Format.{Outcome, length_fault, length_refusal}
+use Rattle.reader.proofs.Operands.{step-refused, step-taken, operands-refused, operands-read, length-other, length-here, length-command}
 use Rattle.reader.proofs.command.length_at.Goals as goal
 
-pub returns-then-plan-at : goal.returns-then-plan-at
-returns-then-plan-at c = length-nothing _ _ _ c.if-plan-at.true
+pub returns-then-not-starts_with : goal.returns-then-not-starts_with
+returns-then-not-starts_with c = length-other _ _ c.if-not-starts_with.ensures.value
 
-pub returns-then-plan-at-ne-LENGTH : goal.returns-then-plan-at-ne-LENGTH
-returns-then-plan-at-ne-LENGTH c =
-    let a = c.args in
-    length-another a.plan.now a.at a.before c.if-plan-at-ne-LENGTH.true
+pub returns-in_err-edge : goal.returns-in_err-edge
+unfolding length_refusal
+returns-in_err-edge c =
+    let here = c.if-not-starts_with.ensures.value in
+    step-refused _ _ _ c.from_residual.ensures.1
+    (operands-refused 0x4D 4 _ _ _ c.in_err-edge.ensures.refusal (omega arith) ∙ length-command _ _ here)
+    ∙ length-here _ _ here
 
-pub returns-then-short : goal.returns-then-short
-returns-then-short c =
-    let a = c.args in
-    length-missing a.plan.now a.at a.before c.if-plan-at-ne-LENGTH.false (omega (arith, c.if-short.true))
-
-pub returns-then-fault-ne0 : goal.returns-then-fault-ne0
-returns-then-fault-ne0 c =
-    let a = c.args in
-    refused _ _ c.if-fault-ne0.true ∙ length-values a.plan.now a.at a.before _ c.if-plan-at-ne-LENGTH.false c.if-short.false c.length_fault-fault.ensures
+pub returns-in_err-length_fault : goal.returns-in_err-length_fault
+unfolding length_refusal
+returns-in_err-length_fault c =
+    let here = c.if-not-starts_with.ensures.value in
+    let read = c.in_ok-edge.ensures in
+    let metres = c.from_be_bytes-metres.ensures ∙ ap₂ (λ h l. h * 256 + l) (read.values 1 (omega arith)) (read.values 2 (omega arith)) in
+    step-refused _ _ _ c.from_residual-in_err-length_fault.ensures.1
+    (c.in_err-length_fault.ensures ∙ ap₂ (length_fault c.args.before) (read.values 0 (omega arith)) metres
+    ∙ sym (operands-read 0x4D 4 _ _ read.refusal) ∙ length-command _ _ here)
+    ∙ length-here _ _ here
 
 pub returns : goal.returns
+unfolding length_refusal
 returns c =
-    let a = c.args in
-    let none = sym c.if-fault-ne0.false ∙ c.length_fault-fault.ensures in
-    length-values a.plan.now a.at a.before 0 c.if-plan-at-ne-LENGTH.false c.if-short.false none
+    let here = c.if-not-starts_with.ensures.value in
+    let read = c.in_ok-edge.ensures in
+    let metres = c.from_be_bytes-metres.ensures ∙ ap₂ (λ h l. h * 256 + l) (read.values 1 (omega arith)) (read.values 2 (omega arith)) in
+    step-taken
+    (sym (length-command _ _ here) ∙ operands-read 0x4D 4 _ _ read.refusal
+    ∙ sym (c.in_ok-length_fault.ensures ∙ ap₂ (length_fault c.args.before) (read.values 0 (omega arith)) metres))
+    (ap Outcome.Length metres)
+    ∙ length-here _ _ here

@@ -1,23 +1,29 @@
--- `command::terminals_at` meets its contract: each way through it is a law of the step at an offset.
+-- `command::terminals_at` meets its contract: the operands are refused, or their values, or they are the answer.
 -- Assumes nothing.
-use mathlib.Core.Path.{sym, ◌∙◌}
-use Rattle.reader.proofs.Offsets.{refused, terminals-nothing, terminals-another, terminals-missing, terminals-values}
+use mathlib.Core.Path.{sym, ap₂, ◌∙◌}
+use native.Mathlib.Omega.{arith}
+use Rattle.network.specs.Record.{terminal_fault}
+use Rattle.format.specs.Format.{Outcome, terminals_step, terminals_refusal}
+use Rattle.reader.proofs.Operands.{step-refused, step-taken, operands-refused, operands-read}
 use Rattle.reader.proofs.command.terminals_at.Goals as goal
 
-pub returns-then-plan-at : goal.returns-then-plan-at
-returns-then-plan-at c = terminals-nothing _ _ _ c.if-plan-at.true
+pub returns-in_err-source : goal.returns-in_err-source
+unfolding terminals_step terminals_refusal
+returns-in_err-source c = step-refused _ _ _ c.from_residual.ensures.1 (operands-refused 0x53 3 _ _ _ c.in_err-source.ensures.refusal (omega arith))
 
-pub returns-then-plan-at-ne-TERMINALS : goal.returns-then-plan-at-ne-TERMINALS
-returns-then-plan-at-ne-TERMINALS c = terminals-another _ _ _ c.if-plan-at.false c.if-plan-at-ne-TERMINALS.true
-
-pub returns-then-plan-at-lt3 : goal.returns-then-plan-at-lt3
-returns-then-plan-at-lt3 c = terminals-missing _ _ _ c.if-plan-at.false c.if-plan-at-ne-TERMINALS.false c.if-plan-at-lt3.true
-
-pub returns-then-fault-ne0 : goal.returns-then-fault-ne0
-returns-then-fault-ne0 c = refused _ _ c.if-fault-ne0.true
-    ∙ terminals-values _ _ _ _ c.if-plan-at.false c.if-plan-at-ne-TERMINALS.false c.if-plan-at-lt3.false c.terminal_fault-fault.ensures
+pub returns-in_err-terminal_fault : goal.returns-in_err-terminal_fault
+unfolding terminals_step terminals_refusal
+returns-in_err-terminal_fault c =
+    let read = c.in_ok-source.ensures in
+    step-refused _ _ _ c.from_residual-in_err-terminal_fault.ensures.1
+    (c.in_err-terminal_fault.ensures ∙ ap₂ (terminal_fault c.args.nodes) (read.values 0 (omega arith)) (read.values 1 (omega arith))
+    ∙ sym (operands-read 0x53 3 _ _ read.refusal))
 
 pub returns : goal.returns
+unfolding terminals_step terminals_refusal
 returns c =
-    let none = sym c.if-fault-ne0.false ∙ c.terminal_fault-fault.ensures in
-    terminals-values _ _ _ 0 c.if-plan-at.false c.if-plan-at-ne-TERMINALS.false c.if-plan-at-lt3.false none
+    let read = c.in_ok-source.ensures in
+    step-taken
+    (operands-read 0x53 3 _ _ read.refusal
+    ∙ sym (c.in_ok-terminal_fault.ensures ∙ ap₂ (terminal_fault c.args.nodes) (read.values 0 (omega arith)) (read.values 1 (omega arith))))
+    (ap₂ Outcome.Terminals (read.values 0 (omega arith)) (read.values 1 (omega arith)))

@@ -6,8 +6,8 @@ use lib.ListN.{length, drop}
 use Rattle.format.specs.Format.{walk}
 use Rattle.reader.proofs.decoding.decode_edges.Given as goal
 
-abbrev pub invariant-loop-edge : goal.invariant-loop-edge
-invariant-loop-edge l = walk l.network l.next (drop l.at l.plan) ≡ walk l.initial.network l.initial.next (drop l.initial.at l.plan)
+abbrev pub invariant-loop-network : goal.invariant-loop-network
+invariant-loop-network l = walk l.network l.next (drop l.at l.plan) ≡ walk l.initial.network l.initial.next (drop l.initial.at l.plan)
 
-abbrev pub decreases-loop-edge : goal.decreases-loop-edge
-decreases-loop-edge l = length l.plan - l.at
+abbrev pub decreases-loop-network : goal.decreases-loop-network
+decreases-loop-network l = length l.plan - l.at

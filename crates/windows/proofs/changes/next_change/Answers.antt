@@ -1,54 +1,23 @@
-use mathlib.Core.Path.{◌≡◌, refl, sym, ap, ◌∙◌}
-use Prim.Native.Nat.{◌+◌}
-use native.Mathlib.Omega.{arith}
+-- `changes::next_change` meets its contract: one fold after the other.
+-- Assumes nothing.
+use mathlib.Core.Path.{◌≡◌, sym, ap, ◌∙◌}
 use borrow.Author.Rules.{rules}
-use lib.ListN.{drop}
+use lib.ListN.{get_or}
+use Rattle.std.specs.List.{fold}
 use Rattle.windows.specs.Windows.{week}
 use Rattle.windows.specs.Times.{times_of, sooner, soonest}
-use Rattle.windows.proofs.Times.{soonest-append, time-step, time-end, booked-step, booked-end}
+use Rattle.windows.proofs.Times.{soonest-append}
+use Rattle.windows.proofs.Chunks.{soonest-fold, booked-fold}
 use Rattle.windows.proofs.changes.next_change.Goals as goal
-
-pub loop-i-init : goal.loop-i-init
-loop-i-init c = record { place = search rules; small = search rules; same = refl }
-
-pub loop-i-preserved : goal.loop-i-preserved
-loop-i-preserved c =
-    let a = c.args in
-    record {
-      place = search rules;
-      small = search rules;
-      same = ap (λ n. soonest a.minute n (drop (c.loop-i.i + 1) a.openings.now)) c.sooner-next.ensures
-          ∙ sym (time-step _ _ _ _ c.loop-i-test.true) ∙ c.loop-i.invariant.same;
-    }
-
-pub loop-at-init : goal.loop-at-init
-loop-at-init c =
-    let found : let a = c.args in
-    c.loop-i.next ≡ soonest a.minute week a.openings.now =
-    let a = c.args in
-    sym (time-end a.minute c.loop-i.next a.openings.now c.loop-i.i (omega (arith, c.loop-i-test.false))) ∙ c.loop-i.invariant.same in
-    let a = c.args in
-    record {
-      place = search rules;
-      small = c.loop-i.invariant.small;
-      same = ap (λ n. soonest a.minute n (times_of a.works.now)) (found);
-    }
-
-pub loop-at-preserved : goal.loop-at-preserved
-loop-at-preserved c =
-    let a = c.args in
-    let w = a.works.now in
-    let i = c.loop-at.at in
-    let both = c.sooner-next-in-loop-at-2.ensures ∙ ap (sooner a.minute _) c.sooner-next-in-loop-at.ensures in
-    record {
-      place = search rules;
-      small = search rules;
-      same = ap (λ n. soonest a.minute n (times_of (drop (i + 3) w))) both
-          ∙ sym (booked-step _ _ w i c.loop-at-test.true) ∙ c.loop-at.invariant.same;
-    }
 
 pub returns : goal.returns
 returns c =
-    let a = c.args in
-    sym (booked-end _ _ a.works.now c.loop-at.at (omega (arith, c.loop-at-test.false)))
-    ∙ c.loop-at.invariant.same ∙ sym (soonest-append a.minute a.openings.now (times_of a.works.now) week)
+    let m = c.args.minute in
+    let o = c.args.openings.now in
+    let w = c.args.works.now in
+    let first : c.fold-next.result ≡ fold (λ n t. sooner m t n) week o = search rules in
+    let second : c.fold.result ≡ fold (λ n b. sooner m (get_or b 1 0) (sooner m (get_or b 0 0) n)) c.fold-next.result c.as_chunks.result.0.now =
+    search rules in
+    second ∙ ap (fold (λ n b. sooner m (get_or b 1 0) (sooner m (get_or b 0 0) n)) c.fold-next.result) c.as_chunks.ensures.front
+    ∙ booked-fold m c.fold-next.result w
+    ∙ ap (λ n. soonest m n (times_of w)) (first ∙ soonest-fold m week o) ∙ sym (soonest-append m o (times_of w) week)

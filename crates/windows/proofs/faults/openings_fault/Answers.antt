@@ -1,42 +1,34 @@
-use mathlib.Core.Path.{◌≡◌, refl, sym, ap, ◌∙◌}
-use Prim.Native.Nat.{◌+◌, ◌<◌}
+use mathlib.Core.Path.{◌≡◌, sym, ◌∙◌}
+use Prim.Native.Nat.{◌*◌}
 use native.Mathlib.Omega.{arith}
-use borrow.Author.Rules.{rules}
-use lib.ListN.{drop}
-use Rattle.network.specs.Record.{◌then◌}
-use Rattle.network.proofs.Refusals.{none_then, some_then}
-use Rattle.windows.specs.Windows.{openings_fault}
+use borrow.Author.Tests.{eqb-true, eqb-false}
+use lib.ListN.{length}
+use Rattle.network.proofs.Refusals.{none_then, refused_then, passed-on}
 use Rattle.windows.proofs.Windows.{openings-step, openings-piece, openings-end}
 use Rattle.windows.proofs.faults.openings_fault.Goals as goal
 
-pub loop-at-init : goal.loop-at-init
-loop-at-init c = record { place = search rules; same = refl }
+pub returns-in_err-fault : goal.returns-in_err-fault
+returns-in_err-fault c =
+    passed-on _ _ c.from_residual.ensures.1 ∙ refused_then _ _ c.in_err-fault.ensures
+    ∙ sym (openings-step _ _ c.as_chunks.ensures.front c.loop-start-test.true) ∙ c.loop-start.invariant
 
-pub returns-then-refusal-ne0 : goal.returns-then-refusal-ne0
-returns-then-refusal-ne0 c =
-    let step : let o = c.args.openings.now in
-    openings_fault o ≡ (c.window_fault-refusal.result then openings_fault (drop (c.loop-at.at + 2) o)) =
-    let o = c.args.openings.now in
-    sym c.loop-at.invariant.same ∙ openings-step o c.loop-at.at c.loop-at-test.true
-    ∙ ap (λ r. r then openings_fault (drop (c.loop-at.at + 2) o)) (sym c.window_fault-refusal.ensures) in
-    let r = c.window_fault-refusal.result in
-    let some : 0 < r = omega (arith, c.if-refusal-ne0.true) in
-    sym (step ∙ some_then r _ some)
+pub loop-start-preserved : goal.loop-start-preserved
+loop-start-preserved c =
+    sym (openings-step _ _ c.as_chunks.ensures.front c.loop-start-test.true ∙ none_then _ (sym c.in_ok-fault.ensures)) ∙ c.loop-start.invariant
 
-pub loop-at-preserved : goal.loop-at-preserved
-loop-at-preserved c =
-    let step : let o = c.args.openings.now in
-    openings_fault o ≡ (c.window_fault-refusal.result then openings_fault (drop (c.loop-at.at + 2) o)) =
-    let o = c.args.openings.now in
-    sym c.loop-at.invariant.same ∙ openings-step o c.loop-at.at c.loop-at-test.true
-    ∙ ap (λ r. r then openings_fault (drop (c.loop-at.at + 2) o)) (sym c.window_fault-refusal.ensures) in
-    record { place = search rules; same = sym (step ∙ none_then _ c.if-refusal-ne0.false) }
+pub returns-then-is_empty : goal.returns-then-is_empty
+returns-then-is_empty c =
+    let none = eqb-true _ _ (sym c.if-is_empty.ensures) in
+    let all = c.as_chunks.ensures in
+    let end : 2 * c.loop-start.start-index ≡ length c.args.openings.now =
+    omega (arith, all.front_len, all.back_len, none, c.loop-start-test.false, c.loop-start.auto) in
+    sym (openings-end _ _ end) ∙ c.loop-start.invariant
 
-pub returns-then-at-openings : goal.returns-then-at-openings
-returns-then-at-openings c = sym (sym c.loop-at.invariant.same ∙ openings-end _ _ c.if-at-openings.true)
-
-pub returns-else-at-openings : goal.returns-else-at-openings
-returns-else-at-openings c =
-    let place = c.loop-at.invariant.place in
-    sym (sym c.loop-at.invariant.same
-    ∙ openings-piece c.args.openings.now c.loop-at.at (omega (arith, place, c.if-at-openings.false)) (omega (arith, c.loop-at-test.false)))
+pub returns-else-is_empty : goal.returns-else-is_empty
+returns-else-is_empty c =
+    let some = eqb-false _ _ (sym c.if-is_empty.ensures) in
+    let all = c.as_chunks.ensures in
+    let at = 2 * c.loop-start.start-index in
+    sym (openings-piece _ at (omega (arith, all.front_len, all.back_len, some, c.loop-start.auto))
+    (omega (arith, all.front_len, c.loop-start-test.false)))
+    ∙ c.loop-start.invariant

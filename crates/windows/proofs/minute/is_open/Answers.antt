@@ -1,21 +1,18 @@
-use mathlib.Core.Path.{refl, sym, ◌∙◌}
-use native.Mathlib.Omega.{arith}
-use borrow.Author.Rules.{rules}
-use Rattle.windows.proofs.Windows.{open-here, open-later, open-end}
+-- `minute::is_open` meets its contract.
+-- Assumes nothing.
+use mathlib.Core.Path.{ap, ◌∙◌}
+use Rattle.std.proofs.Common.{rules, tests}
+use lib.ListN.{get_or}
+use Rattle.std.specs.List.{list_any}
+use Rattle.std.proofs.lemmas.Iterator.{YieldsList-from_slice}
+use Rattle.std.proofs.lemmas.Iterator.Search.{any_from_yields_List}
+use Rattle.windows.specs.Windows.{covers}
+use Rattle.windows.proofs.Chunks.{open-pairs}
 use Rattle.windows.proofs.minute.is_open.Goals as goal
-
-pub loop-at-init : goal.loop-at-init
-loop-at-init c = record { place = search rules; same = refl }
-
-pub returns-then-covers : goal.returns-then-covers
-returns-then-covers c = sym (sym c.loop-at.invariant.same ∙ open-here _ _ _ c.loop-at-test.true (sym c.covers.ensures ∙ c.if-covers.true))
-
-pub loop-at-preserved : goal.loop-at-preserved
-loop-at-preserved c =
-    let tested = sym c.covers.ensures ∙ c.if-covers.false in
-    record { place = search rules; same = sym (open-later _ _ _ c.loop-at-test.true tested) ∙ c.loop-at.invariant.same }
 
 pub returns : goal.returns
 returns c =
-    let a = c.args in
-    sym (sym c.loop-at.invariant.same ∙ open-end a.openings.now c.loop-at.at a.minute (omega (arith, c.loop-at-test.false)))
+    let m = c.args.minute in
+    any_from_yields_List (λ w. covers (get_or w 0 0) (get_or w 1 0) m) _ _ _ c.any.ensures.ran
+    (YieldsList-from_slice c.as_chunks.result.0.now cc) (λ x b q k. search (rules, tests))
+    ∙ ap (list_any (λ w. covers (get_or w 0 0) (get_or w 1 0) m)) c.as_chunks.ensures.front ∙ open-pairs m c.args.openings.now

@@ -1,7 +1,0 @@
--- `EdgeSet::empty` meets its contract: 0 has no member.
--- Assumes nothing.
-use Rattle.bitset.proofs.Members.{has-zero}
-use Rattle.edge_set.proofs.EdgeSet.empty.Goals as goal
-
-pub returns : goal.returns
-returns c = has-zero

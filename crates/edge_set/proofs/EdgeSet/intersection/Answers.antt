@@ -1,7 +1,0 @@
--- `EdgeSet::intersection` meets its contract: `and` has the members of both.
--- Assumes nothing.
-use Rattle.bitset.proofs.Members.{has-and}
-use Rattle.edge_set.proofs.EdgeSet.intersection.Goals as goal
-
-pub returns : goal.returns
-returns c = has-and _ _

@@ -1,7 +1,0 @@
--- `EdgeSet::union` meets its contract: `or` has the members of either.
--- Assumes nothing.
-use Rattle.bitset.proofs.Members.{has-or}
-use Rattle.edge_set.proofs.EdgeSet.union.Goals as goal
-
-pub returns : goal.returns
-returns c = has-or _ _

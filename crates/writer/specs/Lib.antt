@@ -1,0 +1,2 @@
+-- The definitions that the contracts of `writer` cite.
+pub mod Written
