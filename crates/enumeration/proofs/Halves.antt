@@ -71,7 +71,7 @@ module _ (M : Network) (B : Bounded M) where
 
   module _ (b : Branch) (v : ℕ) (free : v ∈ b.undecided.0) (fed : Fed M b) where
     -- Without v the sink is still in the rest.
-    sink-left : M.sink ∈ (b.rest.0 ∖ 2 ^ v)
+    pub sink-left : M.sink ∈ (b.rest.0 ∖ 2 ^ v)
     sink-left = (in-drop b.rest.0 v M.sink).1 (fed.sink, λ e. fed.decided (rw e free))
 
     -- With v joined the sink is in the rest and is not undecided.

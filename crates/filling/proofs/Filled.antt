@@ -1,8 +1,8 @@
--- How lent rows come to be filled: straight, or by a copy of rows that were kept.
+-- How lent rows come to be filled: straight, or by a copy of rows that were kept, or not at all.
 -- Assumes nothing.
-use mathlib.Core.Path.{◌≡◌, sym, ◌∙◌}
+use mathlib.Core.Path.{◌≡◌, refl, sym, ◌∙◌}
 use mathlib.Core.List.{List, ◌++◌}
-use Prim.Native.Nat.{ℕ, ◌+◌, min, ◌≤◌}
+use Prim.Native.Nat.{ℕ, ◌+◌, min, ◌≤◌, ◌<◌}
 use native.Mathlib.Omega.{arith}
 use lib.ListN.{length, take, drop, length-map}
 use Rattle.branches.specs.Enumeration.{Row, cuts_of, sides_of}
@@ -11,6 +11,14 @@ use Rattle.filling.specs.Filled.{Filled}
 use Rattle.filling.proofs.Onto.{sets-onto, kept-onto}
 
 module _ {l : List Row} {cuts sides : List ℕ} where
+  -- More rows are counted than are lent: nothing is written.
+  pub filled_none : {r : ℕ} → r ≡ min (length l) (length cuts + 1) → length cuts < r → Filled l cuts sides cuts sides r
+  filled_none count h = record {
+    count = count;
+    enough = λ few. absurd (omega arith);
+    outnumbered = λ many. (refl, refl);
+  }
+
   -- There are enough rows: all are written straight into them.
   pub filled-straight : {cuts' sides' : List ℕ} {r : ℕ} → length l ≤ length cuts → length cuts ≡ length sides
       → Put l 0 (length cuts) cuts sides cuts' sides' r → Filled l cuts sides cuts' sides' r

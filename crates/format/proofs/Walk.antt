@@ -2,23 +2,29 @@
 -- Assumes nothing.
 --
 --   Stops t d        the answer t is a refusal, and the reader gives d by it
+--   Tagged ks t      the step t of the code has one of the tags ks
 --   HeaderView s     what the first two commands tell of the bytes: the values that they have, or the refusal
 --   EdgeRead k a b m s rest      the edge k from a to b with its length of m metres stands in front of s, and then `rest`
 --   TurnView N next s    what a turn of the walk tells of the bytes: an edge with its length, the end, or the refusal
-use mathlib.Core.Bool.{Bool, true, false, cond}
+use mathlib.Core.Bool.{Bool, true, false, cond, not}
 use mathlib.Core.List.{List, [], ◌∷◌, ◌++◌}
-use mathlib.Core.Path.{◌≡◌, refl, ap, sym, ◌∙◌}
+use mathlib.Core.Path.{◌≡◌, refl, ap, sym, subst, ◌∙◌}
 use Prim.Native.Nat.{ℕ, zero, suc, ◌+◌, ◌*◌, ◌/◌, ◌%◌, ◌≤◌, ◌<◌}
 use native.Mathlib.Nat.{le_refl}
 use native.Mathlib.Omega.{arith}
 use lib.Dec.{T, eqb}
 use lib.ListN.{length, drop, length-drop}
 use lib.Seq.{get_or-drop}
+use mir.Val.{has_key}
+use types.Run.{OneOf, miss}
+use denote.Enum.Declared.{tag_of}
 use Rattle.node_set.specs.Width.{node_width}
 use Rattle.network.specs.declared.Network.{Network}
 use Rattle.network.specs.Record.{among, ◌when◌, ◌then◌, size_fault, terminal_fault, end_fault, bare, with_edge}
 use Rattle.network.proofs.Refusals.{refused-some}
+use Rattle.format.specs.declared.Step.{Step}
 use Rattle.format.specs.Format.{Outcome, Decoded, reader_refusals, at, Bytes, size_step, terminals_step, edge_step, edge_refusal, length_step, length_size, length_command, command_of, told, accept, refuse, if_taken, edges, walk, decode_up_to, decode_of}
+use Rattle.format.specs.contracts.Step as step-type
 use Rattle.format.proofs.Steps.{SizeView, size, size-view, TerminalsView, terminals, terminals-view, EdgeView, edge, end, edge_view, LengthView, measured, unmeasured, length-view, length-read}
 
 -- The answer t is a refusal, and the reader gives d by it.
@@ -26,6 +32,14 @@ pub record Stops (t : Outcome) (d : Decoded) : Type 0 where
   pub number : ℕ
   pub refused : t ≡ Outcome.Refused number
   pub decides : refuse (told t).number ≡ d
+
+-- The step t of the code has one of the tags ks, which number the cases of `Step` from 0.
+abbrev pub Tagged : List ℕ → Step → Type 0
+Tagged ks t = OneOf ks (tag_of step-type.the_type t)
+
+-- Then it is none with another tag.
+other_tag : (ks : List ℕ) (t u : Step) → Tagged ks t → T (not (has_key ks (tag_of step-type.the_type u))) → t ≡ u → ⊥
+other_tag ks t u h n e = miss ks (tag_of step-type.the_type u) n (subst (Tagged ks) e h)
 
 -- A refusal decides.
 pub refusal-decides : {t : Outcome} {r : ℕ} (go_on : List ℕ → Decoded) → t ≡ Outcome.Refused r → 0 < r → if_taken t go_on ≡ refuse r

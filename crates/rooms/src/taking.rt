@@ -1,7 +1,9 @@
 // The rooms taken one after the other, in the work rows.
-ghost use Rattle.std.specs.Prelude.{◌≡◌, ◌+◌, ◌-◌, ◌^◌, ◌≤◌, ◌<◌, length, take, IfSome};
+ghost use Rattle.std.specs.Prelude.{List, [], ◌≡◌, ℕ, ◌+◌, ◌-◌, ◌^◌, ◌≤◌, ◌<◌, length, take, IfSome};
 ghost use Rattle.bitset.specs.Members.{members};
 ghost use Rattle.node_set.specs.Width.{node_width};
+ghost use Rattle.branches.specs.Enumeration.{rows};
+ghost use Rattle.enumeration.specs.Rows.{Put};
 ghost use Rattle.clutters.specs.Steps.{between};
 ghost use Rattle.rooms.specs.Rooms.{step_need};
 ghost use Rattle.rooms.specs.Steps.{counted, MostSets, RoomListed, Added, RoomAdded, Taken};
@@ -15,14 +17,23 @@ use network::Accepted;
 use ordering::sort_sets;
 use sets::BitSet;
 
+// Writes the minimal cuts of an accepted network, as they are found, if there are rows for all of them. Gives their number, at most one more
+// than there are rows: no more of them are looked for. A number and not an Option, since `Put` says so of it.
+fn find_room(accepted: Accepted, found: &mut [u64]) -> usize
+    ensures { (none : List ℕ) × Put (rows accepted.network) 0 (length found.old) found.old [] found.new none result }
+{
+    let lent = found.len();
+    enumerate(part_of(accepted), found, &mut [], lent)
+}
+
 // The minimal cuts of an accepted network, rising, in front of the rows, if there are rows for all of them. Gives their number, none if there
-// are more of them than rows: these are not looked for.
+// are more of them than rows.
 fn list_room(accepted: Accepted, rows: &mut [u64]) -> Option<usize>
     ensures listed { RoomListed accepted.network rows.old rows.new (counted (length rows.old) result) }
     ensures within { IfSome result (λ n. n ≤ length rows.old) }
 {
     let lent = rows.len();
-    let count = enumerate(part_of(accepted), rows, &mut [], lent);
+    let count = find_room(accepted, rows);
     if lent < count {
         return None;
     }

@@ -43,6 +43,10 @@ pub decimal-large : (n : ℕ) → 10 ≤ n → decimal n ≡ decimal (n / 10) ++
 unfolding decimal
 decimal-large n h = rw (digits-large n n h, digits-enough n (suc (n / 10)) (n / 10) (omega arith) (omega arith))
 
+-- Below 100 there are two digits.
+pub decimal-two : (n : ℕ) → 10 ≤ n → n < 100 → decimal n ≡ digit (n / 10) ∷ digit (n % 10) ∷ []
+decimal-two n h k = rw (decimal-large n h, decimal-small (n / 10) (omega arith))
+
 -- A number below 10 ^ d has at most d digits, if d is not 0.
 pub length-decimal : (d n : ℕ) → n < 10 ^ suc d → length (decimal n) ≤ suc d
 length-decimal zero n h = rw (decimal-small n h) (le_refl 1)

@@ -14,10 +14,8 @@ use Rattle.text.proofs.Decimal.{decimal-small, decimal-large}
 use Rattle.text.proofs.Written.{Left, left-all, left-text}
 
 -- Below 10 the one digit of a number is left to be written.
-pub left-small : (p : Page) (n : ℕ) → n < 10 → Left p (decimal n) p (digit (n % 10) ∷ [])
-left-small p n h =
-    let one : n % 10 ≡ n = omega arith in
-    rw (one, decimal-small n h) (left-all p (digit n ∷ []))
+pub left-small : (p : Page) (n : ℕ) → n < 10 → Left p (decimal n) p (digit n ∷ [])
+left-small p n h = rw (decimal-small n h) (left-all p (digit n ∷ []))
 
 -- From 10 on the last digit is left, when the tenth is written.
 pub left-large : {p q : Page} {n : ℕ} → 10 ≤ n → Appended p (decimal (n / 10)) q → Left p (decimal n) q (digit (n % 10) ∷ [])
@@ -51,7 +49,7 @@ unfolding numbers
 numbers-nil e = ap numbers e
 
 -- The text of some numbers is the first, and each further one after a space.
-numbers-cons : {l m : List ℕ} {k : ℕ} → l ≡ k ∷ m → numbers l ≡ decimal k ++ spaced m
+pub numbers-cons : {l m : List ℕ} {k : ℕ} → l ≡ k ∷ m → numbers l ≡ decimal k ++ spaced m
 unfolding numbers
 numbers-cons e = ap numbers e
 

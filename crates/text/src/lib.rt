@@ -1,7 +1,7 @@
 // What is printed of a list, as bytes in lent memory. Every contract speaks of the bytes (specs/Text.antt, specs/Written.antt).
 #![tactic(auto)]
 
-ghost use Rattle.std.specs.Prelude.{take};
+ghost use Rattle.std.specs.Prelude.{◌∷◌, take};
 ghost use Rattle.bitset.specs.Members.{members};
 ghost use Rattle.text.specs.Text.{decimal, numbers, line_of, word_line, refusal_line, row_lines, list_text};
 ghost use Rattle.text.specs.Written.{HasRoom, Appended, Printed};
@@ -39,15 +39,45 @@ impl Page<'_> {
         self.len = end;
     }
 
+    // Writes so many bytes.
+    fn put<const N: usize>(&mut self, bytes: [u8; N])
+        requires { HasRoom self.old bytes }
+        ensures { Appended self.old bytes.entry self.new }
+    {
+        let end = self.len + N;
+        self.bytes[self.len..end].copy_from_slice(&bytes);
+        self.len = end;
+    }
+
     // Writes the number in decimal.
     fn number(&mut self, n: usize)
         requires { HasRoom self.old (decimal n) }
         ensures { Appended self.old (decimal n) self.new }
     {
-        if 10 <= n {
-            self.number(n / 10);
+        if n < 10 {
+            self.put([b'0' + n as u8]);
+            return;
         }
-        self.text(&[b'0' + (n % 10) as u8]);
+        self.number(n / 10);
+        self.put([b'0' + (n % 10) as u8]);
+    }
+
+    // Writes a space and the number. Most of a list is such, of one digit or two: these are written at once, since each byte on its own would
+    // wait until the length after the one before it is stored.
+    fn spaced(&mut self, n: usize)
+        requires { HasRoom self.old (32 ∷ decimal n) }
+        ensures { Appended self.old (32 ∷ decimal n) self.new }
+    {
+        if n < 10 {
+            self.put([b' ', b'0' + n as u8]);
+            return;
+        }
+        if n < 100 {
+            self.put([b' ', b'0' + (n / 10) as u8, b'0' + (n % 10) as u8]);
+            return;
+        }
+        self.put([b' ']);
+        self.number(n);
     }
 
     // Writes the members, rising; a hyphen if there are none.
@@ -62,8 +92,7 @@ impl Page<'_> {
         };
         self.number(lowest as usize);
         for k in rising {
-            self.text(b" ");
-            self.number(k as usize);
+            self.spaced(k as usize);
         }
     }
 

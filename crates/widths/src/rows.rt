@@ -17,7 +17,7 @@ const NONE: [u64; 65] = [0; 65];
 
 // How many rows there are of each width from 0 to 64, and the edges of all rows together.
 #[derive(Clone, Copy)]
-pub(crate) struct RowCounts {
+pub struct RowCounts {
     pub counts: [u64; 65],
     pub edges: EdgeSet,
 }

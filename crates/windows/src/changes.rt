@@ -5,15 +5,17 @@ ghost use Rattle.windows.specs.Times.{times_of, sooner, soonest};
 
 use crate::WEEK;
 
-// The time, if it is past the minute and before the next one known; else that one.
+// The time, if it is past the minute and before the next one known; else that one. Both are told by one test of how far it is ahead, where a
+// time that is past counts as farther than any other: nothing foretells which times are past, so that no branch asks.
 fn sooner(minute: u16, time: u16, next: u16) -> u16
     ensures { result ≡ sooner minute time next }
 {
-    if minute < time && time < next {
-        time
-    } else {
-        next
+    if next <= minute {
+        return next;
     }
+    let left = next - minute - 1;
+    let ahead = time.wrapping_sub(minute).wrapping_sub(1);
+    if ahead < left { time } else { next }
 }
 
 // When some window next starts or ends, or the week does: until then nothing changes.

@@ -1,5 +1,4 @@
-use Rattle.text.specs.Text.{decimal}
-use Rattle.text.proofs.Written.{room-front, room-rest, appended-text, left-room, left-text, left-none}
+use Rattle.text.proofs.Written.{room-front, left-room, left-text, left-none}
 use Rattle.text.proofs.NumberTexts.{left-hyphen, left-lowest, left-number, left-nothing}
 use Rattle.text.proofs.Page.numbers.Goals as goal
 
@@ -15,17 +14,11 @@ number-requires g c = room-front _ (left-room (left-lowest c.members-rising.ensu
 pub loop-k-init : goal.loop-k-init
 loop-k-init g c = rw c.into_iter-k-iterator.ensures.into_iter_gives (left-text (left-lowest c.members-rising.ensures c.in-Some.ensures.steps) c.number.ensures)
 
-pub text-requires-in-loop-k : goal.text-requires-in-loop-k
-text-requires-in-loop-k g c =
-    room-front (decimal c.in-Some-k.k) (room-front _ (left-room (left-number c.in-Some-k.ensures.steps c.loop-k.invariant) c.requires))
-
-pub number-requires-in-loop-k : goal.number-requires-in-loop-k
-number-requires-in-loop-k g c =
-    room-rest (room-front _ (left-room (left-number c.in-Some-k.ensures.steps c.loop-k.invariant) c.requires)) c.text-in-loop-k.ensures
+pub spaced-requires : goal.spaced-requires
+spaced-requires g c = room-front _ (left-room (left-number c.in-Some-k.ensures.steps c.loop-k.invariant) c.requires)
 
 pub loop-k-preserved : goal.loop-k-preserved
-loop-k-preserved g c =
-    left-text (left-number c.in-Some-k.ensures.steps c.loop-k.invariant) (appended-text c.text-in-loop-k.ensures c.number-in-loop-k.ensures)
+loop-k-preserved g c = left-text (left-number c.in-Some-k.ensures.steps c.loop-k.invariant) c.spaced.ensures
 
 pub returns : goal.returns
 returns g c = left-none (left-nothing c.in-None.ensures.steps.0 c.loop-k.invariant)
