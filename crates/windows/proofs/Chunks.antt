@@ -78,6 +78,22 @@ module _ (m : ℕ) where
       ap (list_any (λ w. covers (get_or w 0 0) (get_or w 1 0) m)) (pairs-cons s e later)
       ∙ ap (λ b. covers s e m || b) (open-pairs later)
 
+  -- The soonest time, gathered from left to right; of works windows from the first two numbers of each.
+  pub soonest-fold : (n : ℕ) (l : List ℕ) → fold (λ n t. sooner m t n) n l ≡ soonest m n l
+  unfolding soonest
+  soonest-fold n [] = refl
+  soonest-fold n (t ∷ l) = soonest-fold (sooner m t n) l
+
+  pub booked-fold : (n : ℕ) (w : List ℕ)
+      → fold (λ n b. sooner m (get_or b 1 0) (sooner m (get_or b 0 0) n)) n (triples w) ≡ soonest m n (times_of w)
+  unfolding soonest times_of
+  booked-fold n [] = refl
+  booked-fold n (s ∷ []) = refl
+  booked-fold n (s ∷ e ∷ []) = refl
+  booked-fold n (s ∷ e ∷ k ∷ later) =
+      ap (fold (λ n b. sooner m (get_or b 1 0) (sooner m (get_or b 0 0) n)) n) (triples-cons s e k later)
+      ∙ booked-fold (sooner m e (sooner m s n)) later
+
   -- The minutes left until a time tell which of the two is the sooner,
   nearer-sooner : (t d : ℕ) → t < 2 ^ 16 → m + 1 + d < 2 ^ 16 → m + 1 + nearer m t d ≡ sooner m t (m + 1 + d)
   unfolding nearer sooner
@@ -107,7 +123,7 @@ module _ (m : ℕ) where
       let rest = booked-within (nearer m (get_or b 1 0) (nearer m (get_or b 0 0) d)) w in
       omega (arith, one, two, rest)
 
-  -- So the fewest minutes left, gathered from left to right, tell the soonest time; of works windows from the first two numbers of each.
+  -- So the fewest minutes left, gathered likewise, tell the soonest time.
   pub nearest-fold : (d : ℕ) (l : List ℕ) → ((i : ℕ) → get_or l i 0 < 2 ^ 16) → m + 1 + d < 2 ^ 16
       → m + 1 + fold (λ d t. nearer m t d) d l ≡ soonest m (m + 1 + d) l
   unfolding soonest
