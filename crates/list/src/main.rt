@@ -53,7 +53,7 @@ fn read_plan(stdin: &mut Stdin, plan: &mut [u8; DECIDING]) -> io::Result<usize>
 
 fn main(rt: HostRuntime) {
     let mut plan = [0u8; DECIDING];
-    // Here and not below: where a read may end the program between, the page is compiled to be cleared at both places.
+    // Before the read: declared behind it, where a failed read has ended the program, the page is compiled to be cleared twice.
     let mut page = [0u8; MAX_TEXT];
     let Ok(read) = read_plan(&mut rt.stdin(), &mut plan) else {
         let _ = rt.stderr().write_all(b"list: cannot read standard input\n");

@@ -17,8 +17,8 @@ use network::Accepted;
 use ordering::sort_sets;
 use sets::BitSet;
 
-// Writes the minimal cuts of an accepted network, as they are found, if there are rows for all of them. Gives their number, at most one more
-// than there are rows: no more of them are looked for. A number and not an Option, since `Put` says so of it.
+// Writes the minimal cuts of an accepted network as they are found, as far as there are rows. Gives their number, at most one more than there
+// are rows: no more of them are looked for. A number and not an Option, since `Put` bounds it so.
 fn find_room(accepted: Accepted, found: &mut [u64]) -> usize
     ensures { (none : List ℕ) × Put (rows accepted.network) 0 (length found.old) found.old [] found.new none result }
 {

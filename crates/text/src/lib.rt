@@ -1,7 +1,7 @@
 // What is printed of a list, as bytes in lent memory. Every contract speaks of the bytes (specs/Text.antt, specs/Written.antt).
 #![tactic(auto)]
 
-ghost use Rattle.std.specs.Prelude.{◌∷◌, take};
+ghost use Rattle.std.specs.Prelude.{◌∷◌, ◌<◌, take};
 ghost use Rattle.bitset.specs.Members.{members};
 ghost use Rattle.text.specs.Text.{decimal, numbers, line_of, word_line, refusal_line, row_lines, list_text};
 ghost use Rattle.text.specs.Written.{HasRoom, Appended, Printed};
@@ -62,22 +62,18 @@ impl Page<'_> {
         self.put([b'0' + (n % 10) as u8]);
     }
 
-    // Writes a space and the number. Most of a list is such, of one digit or two: these are written at once, since each byte on its own would
-    // wait until the length after the one before it is stored.
+    // Writes a space and a number of one digit or two. Most of a list is such: each is written at once, since a byte on its own would wait until
+    // the length after the one before it is stored.
     fn spaced(&mut self, n: usize)
-        requires { HasRoom self.old (32 ∷ decimal n) }
+        requires digits { n < 100 }
+        requires room { HasRoom self.old (32 ∷ decimal n) }
         ensures { Appended self.old (32 ∷ decimal n) self.new }
     {
         if n < 10 {
             self.put([b' ', b'0' + n as u8]);
-            return;
-        }
-        if n < 100 {
+        } else {
             self.put([b' ', b'0' + (n / 10) as u8, b'0' + (n % 10) as u8]);
-            return;
         }
-        self.put([b' ']);
-        self.number(n);
     }
 
     // Writes the members, rising; a hyphen if there are none.

@@ -1,5 +1,5 @@
 -- Assumes nothing.
-use mathlib.Core.Path.{◌≡◌, ap, ◌∙◌}
+use mathlib.Core.Path.{ap, ◌∙◌}
 use mathlib.Core.List.{◌++◌, append-nil}
 use lib.Seq.{take_all}
 use Rattle.std.proofs.lemmas.List.{drop_all}

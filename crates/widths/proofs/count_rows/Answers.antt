@@ -1,7 +1,6 @@
 -- `count_rows` meets its contract: by the number of their edges where each edge present is alone, else by their leading edges.
 -- Assumes nothing.
 use mathlib.Core.Path.{◌∙◌}
-use borrow.Author.Rules.{rules}
 use Rattle.twins.proofs.Twins.{alone-found}
 use Rattle.widths.proofs.Counting.{table-plain}
 use Rattle.widths.proofs.count_rows.Goals as goal

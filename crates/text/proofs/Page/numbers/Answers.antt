@@ -1,3 +1,5 @@
+use native.Mathlib.Omega.{arith}
+use Rattle.bitset.proofs.Going.{came-lt}
 use Rattle.text.proofs.Written.{room-front, left-room, left-text, left-none}
 use Rattle.text.proofs.NumberTexts.{left-hyphen, left-lowest, left-number, left-nothing}
 use Rattle.text.proofs.Page.numbers.Goals as goal
@@ -15,7 +17,12 @@ pub loop-k-init : goal.loop-k-init
 loop-k-init g c = rw c.into_iter-k-iterator.ensures.into_iter_gives (left-text (left-lowest c.members-rising.ensures c.in-Some.ensures.steps) c.number.ensures)
 
 pub spaced-requires : goal.spaced-requires
-spaced-requires g c = room-front _ (left-room (left-number c.in-Some-k.ensures.steps c.loop-k.invariant) c.requires)
+spaced-requires g c =
+    let member = came-lt 64 _ c.in-Some-k.k _ c.in-Some-k.ensures.steps in
+    record {
+      digits = omega (arith, member);
+      room = room-front _ (left-room (left-number c.in-Some-k.ensures.steps c.loop-k.invariant) c.requires);
+    }
 
 pub loop-k-preserved : goal.loop-k-preserved
 loop-k-preserved g c = left-text (left-number c.in-Some-k.ensures.steps c.loop-k.invariant) c.spaced.ensures
